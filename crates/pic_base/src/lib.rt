@@ -1,0 +1,19 @@
+//! The words that every crate of Picos core shares: the numbers of things, the outcome of a
+//! computation, the limits of a machine, and the refusal for want of memory.
+//!
+//! It stands on std alone. The layers above use its types as they are, and `outcome_text` of
+//! `specs/Outcome.antt` for what an outcome prints.
+#![tactic(auto)]
+
+mod limits;
+mod memory;
+mod numbers;
+mod outcome;
+
+pub use limits::Limits;
+pub use memory::Memory;
+pub use numbers::{CompNo, FiberNo, Value};
+pub use outcome::Outcome;
+
+#[cfg(test)]
+mod tests;

@@ -1,0 +1,10 @@
+//! How things are numbered. Each kind of thing is numbered on its own, without gaps.
+
+/// A value that scripts compute with, and the code of a cancellation.
+pub type Value = u32;
+
+/// The number of a fiber: 0 is the clock, 1 is main, and later fibers are numbered as they are made.
+pub type FiberNo = u32;
+
+/// The number of a computation, from 0: the root, then the declared ones in order.
+pub type CompNo = u32;

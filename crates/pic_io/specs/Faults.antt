@@ -1,0 +1,6 @@
+-- When a count of faults says that a fault occurred.
+use Rattle.std.specs.Prelude.{◌≡◌, ℕ, ◌-◌, ◌^◌, ◌<◌, ◌⊎◌}
+
+-- the count rose, or stands at the end of its type, where it can't rise
+abbrev pub Rose : ℕ → ℕ → Type 0
+Rose before now = (before < now) ⊎ (now ≡ 2 ^ 64 - 1)

@@ -1,0 +1,13 @@
+//! The outside, as the program meets it: files that are read by name, and a sink that text goes to.
+//!
+//! It stands on std alone. `MemFiles` and `MemSink` live in memory and fail where they are told to;
+//! `RealFiles` and `RealSink` are the trusted edge, a few lines each over std. The layer above is
+//! generic over `Files` and `Sink`, and uses their contracts: what an answer says of the content,
+//! and that each answer `Failed` shows in the count of faults.
+#![tactic(auto)]
+
+mod files;
+mod sink;
+
+pub use files::{Files, ReadRefusal};
+pub use sink::{Sink, SinkRefusal};

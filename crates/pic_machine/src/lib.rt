@@ -1,13 +1,23 @@
-// A library with one function.
+//! The Picos machine: worlds, the entries that fibers make in them, and the histories of entries
+//! that are legal.
+//!
+//! `specs/` defines the machine, over lists and whole numbers, by cases on the call: `State`
+//! (a world), `Step` (which calls are allowed, their replies and what they change), `History`
+//! (legal histories), `Log` (what one fiber did), `Final` (nothing is left to do) and `Order` (the
+//! turns of the FIFO order). It stands on `pic_base`. The layers above use `World`, whose calls are
+//! exactly the definition's start and step, and the laws of `proofs/Histories.antt` on how a legal
+//! history grows by one entry.
 #![tactic(auto)]
 
-ghost use Rattle.std.specs.Prelude.{◌≡◌};
-ghost use Rattle.pic_machine.specs.Echo.{echo_of};
+mod birth;
+mod entry;
+mod state;
+mod world;
 
-// The `ensures` clause is the contract: what `echo` returns is `echo_of` of its argument, a definition
-// in `specs/Echo.antt`, which a caller's clause can cite too.
-pub fn echo(x: usize) -> usize
-    ensures { result ≡ echo_of x }
-{
-    x
-}
+pub use birth::Birth;
+pub use entry::{Call, CompleteReply, Entry, Happened, Reply};
+pub use state::{CompState, FiberState};
+pub use world::{Start, World};
+
+#[cfg(test)]
+mod tests;

@@ -1,0 +1,55 @@
+-- How histories grow: by one entry at the end. Every port and runner of the machine stands on these laws.
+use Rattle.std.proofs.Common.{◌≡◌, ℕ, Bool, true, false, ◌==◌, List, [], ◌∷◌, ◌++◌, filter, refl, sym, ap, subst, ◌∙◌, append_assoc, append-nil}
+use Rattle.std.proofs.lemmas.List.{same_from_push}
+use Rattle.std.proofs.lemmas.List.Elements.{filter-append}
+use Rattle.pic_machine.specs.declared.entry.Happened.{Happened}
+use Rattle.pic_machine.specs.State.{State}
+use Rattle.pic_machine.specs.Step.{after}
+use Rattle.pic_machine.specs.History.{Origin, world_from, world, Follows, IsLegal}
+use Rattle.pic_machine.specs.Log.{is_logged, log}
+
+-- the world after one more entry is the step from the world before it
+pub world_from-push : (w : State) (hs : List Happened) (h : Happened) → world_from w (hs ++ h ∷ []) ≡ after (world_from w hs) h.entry.fiber h.entry.call
+world_from-push w [] h = refl
+world_from-push w (x ∷ hs) h = world_from-push (after w x.entry.fiber x.entry.call) hs h
+
+pub world-push : (origin : Origin) (hs : List Happened) (h : Happened) → world origin (hs ++ h ∷ []) ≡ after (world origin hs) h.entry.fiber h.entry.call
+world-push origin hs h = world_from-push origin.world hs h
+
+nothing : (front back : List Happened) (h : Happened) → [] ≡ front ++ h ∷ back → ⊥
+nothing [] back h is = cc
+nothing (x ∷ front) back h is = cc
+
+-- nothing has happened yet
+pub IsLegal-nil : (origin : Origin) → IsLegal origin []
+IsLegal-nil origin = record { each = λ front back h is. absurd (nothing front back h is) }
+
+-- an entry in a longer list is one of the first ones, or the last
+at_push : (P : List Happened → Happened → Type 0) (hs : List Happened) (last : Happened)
+    → ((front back : List Happened) (h : Happened) → hs ≡ front ++ h ∷ back → P front h) → P hs last
+    → (front back : List Happened) (h : Happened) → hs ++ last ∷ [] ≡ front ++ h ∷ back → P front h
+at_push P [] last each here [] back h is = let e : last ≡ h = cc in subst (λ (x : Happened). P [] x) e here
+at_push P [] last each here (x ∷ []) back h is = absurd cc
+at_push P [] last each here (x ∷ (y ∷ front)) back h is = absurd cc
+at_push P (x ∷ hs) last each here [] back h is = each [] hs h (let e : x ≡ h = cc in ap (λ (z : Happened). z ∷ hs) e)
+at_push P (x ∷ hs) last each here (y ∷ front) back h is =
+    let e : x ≡ y = cc in
+    let rest : hs ++ last ∷ [] ≡ front ++ h ∷ back = cc in
+    let Q : List Happened → Happened → Type 0 = λ zs z. P (x ∷ zs) z in
+    let below : (f b : List Happened) (z : Happened) → hs ≡ f ++ z ∷ b → Q f z = λ f b z at. each (x ∷ f) b z (ap (λ (zs : List Happened). x ∷ zs) at) in
+    subst (λ (z : Happened). P (z ∷ front) h) e (at_push Q hs last below here front back h rest)
+
+-- a legal history, and an entry that may follow it
+pub IsLegal-push : (origin : Origin) (hs : List Happened) (h : Happened) → IsLegal origin hs → Follows origin hs h → IsLegal origin (hs ++ h ∷ [])
+IsLegal-push origin hs h legal follows = record { each = at_push (Follows origin) hs h legal.each follows }
+
+-- ---- the log of one fiber
+
+pub log-push : (hs : List Happened) (h : Happened) (f : ℕ) → log (hs ++ h ∷ []) f ≡ log hs f ++ log (h ∷ []) f
+log-push hs h f = filter-append (is_logged f) hs (h ∷ [])
+
+pub log-push_mine : (hs : List Happened) (h : Happened) (f : ℕ) → is_logged f h ≡ true → log (hs ++ h ∷ []) f ≡ log hs f ++ h ∷ []
+log-push_mine hs h f is = log-push hs h f ∙ rw is refl
+
+pub log-push_hidden : (hs : List Happened) (h : Happened) (f : ℕ) → is_logged f h ≡ false → log (hs ++ h ∷ []) f ≡ log hs f
+log-push_hidden hs h f is = log-push hs h f ∙ rw is (append-nil (log hs f))

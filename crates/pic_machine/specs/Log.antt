@@ -1,0 +1,25 @@
+-- What one fiber did in a history.
+use Rattle.std.specs.Prelude.{ℕ, Bool, true, false, ◌==◌, ◌&&◌, not, List, map, filter}
+use Rattle.pic_machine.specs.declared.entry.Call.{Call}
+use Rattle.pic_machine.specs.declared.entry.Call.TheVariants.{Turn}
+use Rattle.pic_machine.specs.declared.entry.Entry.{Entry}
+use Rattle.pic_machine.specs.declared.entry.Happened.{Happened}
+
+abbrev pub is_turn : Call → Bool
+is_turn Turn = true
+is_turn _ = false
+
+-- an entry of fiber f that is no turn
+abbrev pub is_logged : ℕ → Happened → Bool
+is_logged f h = (h.entry.fiber == f) && not (is_turn h.entry.call)
+
+-- what fiber f did, in order; that its turns began is left out
+abbrev pub log : List Happened → ℕ → List Happened
+log hs f = filter (is_logged f) hs
+
+-- the entries that a report shows: all but turns
+abbrev pub is_visible : Happened → Bool
+is_visible h = not (is_turn h.entry.call)
+
+abbrev pub visible : List Happened → List Entry
+visible hs = map (λ h. h.entry) (filter is_visible hs)

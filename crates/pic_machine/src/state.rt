@@ -1,0 +1,15 @@
+use pic_base::Outcome;
+
+/// A computation: running, or completed once and for all (Picos: `Computation`).
+#[derive(Clone, Copy, Debug, PartialEq, Eq)]
+pub enum CompState {
+    Running,
+    Done(Outcome),
+}
+
+/// A fiber: it can make entries, or it has ended.
+#[derive(Clone, Copy, Debug, PartialEq, Eq)]
+pub enum FiberState {
+    Live,
+    Ended(Outcome),
+}

@@ -1,2 +1,5 @@
+pub mod Counts
+pub mod Entries
 pub mod Faults
 pub mod Held
+pub mod Refusals

@@ -19,6 +19,11 @@ pub enum ReadRefusal {
 }
 
 impl fmt::Display for ReadRefusal {
+    ghost use Rattle.std.specs.Prelude.{Some};
+    ghost use Rattle.pic_io.specs.Refusals.{read_refusal_text};
+
+    ghost output = { λ refusal. Some (read_refusal_text refusal) };
+
     fn fmt<W: fmt::Write>(&self, f: &mut fmt::Formatter<W>) -> fmt::Result {
         f.write_str(match self {
             ReadRefusal::TooLarge => "the file is too large",
@@ -65,12 +70,15 @@ pub trait Files {
     fn read(&mut self, alloc: Global, name: &str, limit: usize) -> Result<Vec<u8>, ReadRefusal>
         ensures whole { IfOk result (λ bytes. Gives (held self.old name.now) bytes.items) }
         ensures within { IfOk result (λ bytes. length bytes.items ≤ limit) }
-        ensures too_large { IsErrOf result ReadRefusal.TooLarge → IsLongerThan (held self.old name.now) limit }
-        ensures failed { IsErrOf result ReadRefusal.Failed → Rose (fault_count self.old) (fault_count self.new) }
+        ensures too_large { IsErrOf result ReadRefusal.TooLarge →
+            IsLongerThan (held self.old name.now) limit }
+        ensures failed { IsErrOf result ReadRefusal.Failed →
+            Rose (fault_count self.old) (fault_count self.new) }
         ensures steady { fault_count self.old ≤ fault_count self.new }
         ensures named { IsErrOf result ReadRefusal.Failed → last_failed self.new ≡ Some name.now }
 
         // Any other answer leaves the name of the last failed read.
-        ensures unnamed { (IsErrOf result ReadRefusal.Failed → ⊥) → last_failed self.new ≡ last_failed self.old }
+        ensures unnamed { (IsErrOf result ReadRefusal.Failed → ⊥) →
+            last_failed self.new ≡ last_failed self.old }
         ensures kept { (other : List ℕ) → held self.new other ≡ held self.old other };
 }

@@ -7,7 +7,15 @@
 #![tactic(auto)]
 
 mod files;
+mod memory_files;
+mod memory_sink;
+mod real_files;
+mod real_sink;
 mod sink;
 
 pub use files::{Files, ReadRefusal};
+pub use memory_files::MemFiles;
+pub use memory_sink::MemSink;
+pub use real_files::RealFiles;
+pub use real_sink::RealSink;
 pub use sink::{Sink, SinkRefusal};

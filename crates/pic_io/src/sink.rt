@@ -15,6 +15,11 @@ pub enum SinkRefusal {
 }
 
 impl fmt::Display for SinkRefusal {
+    ghost use Rattle.std.specs.Prelude.{Some};
+    ghost use Rattle.pic_io.specs.Refusals.{sink_refusal_text};
+
+    ghost output = { λ refusal. Some (sink_refusal_text refusal) };
+
     fn fmt<W: fmt::Write>(&self, f: &mut fmt::Formatter<W>) -> fmt::Result {
         f.write_str(match self {
             SinkRefusal::Failed => "the sink took nothing",
@@ -43,8 +48,10 @@ pub trait Sink {
         requires { 0 < length piece.now }
         ensures some { IfOk result (λ n. 0 < n) }
         ensures within { IfOk result (λ n. n ≤ length piece.now) }
-        ensures front { IfOk result (λ n. Appends (taken self.old) (taken self.new) (take n piece.now)) }
+        ensures front { IfOk result (λ n.
+            Appends (taken self.old) (taken self.new) (take n piece.now)) }
         ensures none { OnErr result (Keeps (taken self.old) (taken self.new)) }
-        ensures failed { IsErrOf result SinkRefusal.Failed → Rose (fault_count self.old) (fault_count self.new) }
+        ensures failed { IsErrOf result SinkRefusal.Failed →
+            Rose (fault_count self.old) (fault_count self.new) }
         ensures steady { fault_count self.old ≤ fault_count self.new };
 }

@@ -1,13 +1,7 @@
-// A library with one function.
+//! The top call: from the words of a command line to the bytes of a report.
 #![tactic(auto)]
 
-ghost use Rattle.std.specs.Prelude.{◌≡◌};
-ghost use Rattle.pic_run.specs.Echo.{echo_of};
+pub mod program;
+mod reader;
 
-// The `ensures` clause is the contract: what `echo` returns is `echo_of` of its argument, a definition
-// in `specs/Echo.antt`, which a caller's clause can cite too.
-pub fn echo(x: usize) -> usize
-    ensures { result ≡ echo_of x }
-{
-    x
-}
+pub use program::{CompRef, Operand, Program, Stmt};

@@ -1,0 +1,9 @@
+pub mod Bools
+pub mod Words
+pub mod Spelled
+pub mod Cuts
+pub mod Places
+pub mod Statements
+pub mod Lines
+pub mod Reading
+pub mod Parsing

@@ -7,3 +7,5 @@ pub mod Statements
 pub mod Lines
 pub mod Reading
 pub mod Parsing
+pub mod Running
+pub mod Whole

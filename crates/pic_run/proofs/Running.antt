@@ -1,0 +1,153 @@
+-- One entry of main after another: what each statement adds to the history.
+use Rattle.std.proofs.Common.{◌≡◌, ◌≢◌, ℕ, ◌+◌, ◌<◌, Bool, true, false, List, [], ◌∷◌, ◌++◌, length, Option, Some, None, slice_get, slice_set, refl, sym, ap, subst, ◌∙◌, arith, append_assoc, append-nil}
+use Rattle.std.specs.List.{AllByRecursion}
+use Rattle.std.proofs.lemmas.List.{length-set}
+use Rattle.pic_base.specs.declared.outcome.Outcome.{Outcome}
+use Rattle.pic_base.specs.declared.outcome.Outcome.TheVariants.{Returned, Cancelled}
+use Rattle.pic_machine.specs.declared.entry.Call.{Call}
+use Rattle.pic_machine.specs.declared.entry.Call.TheVariants as call
+use Rattle.pic_machine.specs.declared.entry.CompleteReply.{CompleteReply}
+use Rattle.pic_machine.specs.declared.entry.CompleteReply.TheVariants.{Won, Lost}
+use Rattle.pic_machine.specs.declared.entry.Reply.{Reply}
+use Rattle.pic_machine.specs.declared.entry.Reply.TheVariants.{Plain, Completed, Peeked}
+use Rattle.pic_machine.specs.declared.entry.Happened.{Happened}
+use Rattle.pic_machine.specs.declared.state.CompState.{CompState}
+use Rattle.pic_machine.specs.declared.state.CompState.TheVariants.{Running, Done}
+use Rattle.pic_machine.specs.State.{State}
+use Rattle.pic_machine.specs.Step.{Allowed, after, reply_of, completed, peeked, with_outcome}
+use Rattle.pic_machine.specs.History.{event, origin_of, world, Follows, IsLegal}
+use Rattle.pic_machine.specs.Log.{is_turn}
+use Rattle.pic_machine.specs.Order.{IsOwn, stops}
+use Rattle.pic_machine.proofs.Histories.{IsLegal-push, world-push}
+use Rattle.pic_run.specs.declared.program.Operand.{Operand}
+use Rattle.pic_run.specs.declared.program.CompRef.{CompRef}
+use Rattle.pic_run.specs.declared.program.Stmt.{Stmt}
+use Rattle.pic_run.specs.declared.program.Stmt.TheVariants.{Set, Say, Return, Cancel, Peek}
+use Rattle.pic_run.specs.Meaning.{Context, Does, set_next, say_next, return_next, cancel_next, peek_next, next, comp_number, value_of, with_register, won, state_number, outcome_number}
+use Rattle.pic_run.specs.Past.{Past, world_of, IsKept, Adds, Completes, Did, won_of, seen_of}
+
+pub pair : {A B : Type 0} {a a' : A} {b b' : B} → a ≡ a' → b ≡ b' → ◌≡◌ {A = A × B} (a, b) (a', b')
+pair p q = λ i. (p i, q i)
+
+-- the past with one more entry
+abbrev pub longer : Past → Happened → Past
+longer past h = record past { history = past.history ++ h ∷ [] }
+
+-- ---- the machine goes on
+
+pub kept-push : (past : Past) (w now : State) (f : ℕ) (c : Call) (reply : Reply) → IsKept past w → Allowed w f c → reply ≡ reply_of w f c → now ≡ after w f c → IsKept (longer past (event f c reply)) now
+kept-push past w now f c reply kept allowed answers step = record {
+  legal = IsLegal-push (origin_of past.start) past.history (event f c reply) kept.legal (record {
+    allowed = subst (λ (v : State). Allowed v f c) kept.now allowed;
+    reply = answers ∙ ap (λ (v : State). reply_of v f c) kept.now;
+    birth = refl;
+  });
+  now = step ∙ (ap (λ (v : State). after v f c) kept.now ∙ sym (world-push (origin_of past.start) past.history (event f c reply)));
+}
+
+world_longer : (past : Past) (f : ℕ) (c : Call) (reply : Reply) → world_of (longer past (event f c reply)) ≡ after (world_of past) f c
+world_longer past f c reply = world-push (origin_of past.start) past.history (event f c reply)
+
+-- an entry that leaves the fibers, and the count of computations
+adds : (old new : Past) (f : ℕ) (c : Call) (reply : Reply) → new ≡ longer old (event f c reply) → (after (world_of old) f c).fibers ≡ (world_of old).fibers
+    → length (after (world_of old) f c).comps ≡ length (world_of old).comps → Adds old new (event f c reply)
+adds old new f c reply is fibers comps =
+    let step : world_of new ≡ after (world_of old) f c = ap world_of is ∙ world_longer old f c reply in
+    record {
+      grown = is;
+      fibers = ap (λ (w : State). w.fibers) step ∙ fibers;
+      comps = ap (λ (w : State). length w.comps) step ∙ comps;
+    }
+
+outcome_fibers : (w : State) (c : ℕ) (o : Outcome) (s : Option CompState) → (with_outcome w c o s).fibers ≡ w.fibers
+outcome_fibers w c o None = refl
+outcome_fibers w c o (Some Running) = refl
+outcome_fibers w c o (Some (Done x)) = refl
+
+outcome_comps : (w : State) (c : ℕ) (o : Outcome) (s : Option CompState) → length (with_outcome w c o s).comps ≡ length w.comps
+outcome_comps w c o None = refl
+outcome_comps w c o (Some Running) = length-set w.comps c (Done o)
+outcome_comps w c o (Some (Done x)) = refl
+
+-- ---- replies
+
+completed_is : (s : Option CompState) → (x : CompleteReply) × (completed s ≡ Completed x)
+completed_is None = (Won, refl)
+completed_is (Some Running) = (Won, refl)
+completed_is (Some (Done o)) = (Lost o, refl)
+
+peeked_is : (s : Option CompState) → (seen : Option Outcome) × (peeked s ≡ Peeked seen)
+peeked_is None = (None, refl)
+peeked_is (Some Running) = (None, refl)
+peeked_is (Some (Done o)) = (Some o, refl)
+
+-- ---- statements
+
+pub completes : (old new : Past) (before now : Context) (register : ℕ) (comp : CompRef) (k : ℕ) (outcome : Outcome) (reply : Reply)
+    → k ≡ comp_number comp → reply ≡ reply_of (world_of old) 1 (call.Complete k outcome) → new ≡ longer old (event 1 (call.Complete k outcome) reply)
+    → now ≡ with_register before register (won_of reply) → Completes old new before now register comp outcome
+completes old new before now register comp k outcome reply number answers is told =
+    let w = world_of old in
+    let shape = completed_is (slice_get w.comps k) in
+    let reply_is : reply ≡ Completed shape.0 = answers ∙ shape.1 in
+    let here : new ≡ longer old (event 1 (call.Complete (comp_number comp) outcome) (Completed shape.0)) = is ∙ ap (λ (p : ℕ × Reply). longer old (event 1 (call.Complete p.0 outcome) p.1)) (pair number reply_is) in
+    record {
+      reply = shape.0;
+      adds = adds old new 1 (call.Complete (comp_number comp) outcome) (Completed shape.0) here
+          (outcome_fibers w (comp_number comp) outcome (slice_get w.comps (comp_number comp))) (outcome_comps w (comp_number comp) outcome (slice_get w.comps (comp_number comp)));
+      told = told ∙ ap (λ (r : Reply). with_register before register (won_of r)) reply_is;
+    }
+
+-- a statement of one entry, which ends no turn
+did_one : (old new : Past) (s : Stmt) (before now : Context) (c : Call) (reply : Reply) → Adds old new (event 1 c reply) → Does 1 s before (event 1 c reply ∷ []) next now
+    → is_turn c ≡ false → stops c ≡ false → Did old new s before now
+did_one old new s before now c reply adds does within on = record {
+  start = ap (λ (p : Past). p.start) adds.grown;
+  made = event 1 c reply ∷ [];
+  grown = ap (λ (p : Past). p.history) adds.grown;
+  does = does;
+  own = (record { by = refl; within = within }, tt);
+  on = (on, tt);
+  fibers = adds.fibers;
+  comps = adds.comps;
+}
+
+pub did_set : (old : Past) (r : ℕ) (v : Operand) (before now : Context) (value : ℕ) → value ≡ value_of before v → now ≡ with_register before r value → Did old old (Set r v) before now
+did_set old r v before now value is after = record {
+  start = refl;
+  made = [];
+  grown = sym (append-nil old.history);
+  does = subst (λ (d : Context). Does 1 (Set r v) before [] next d) (sym (after ∙ ap (λ (n : ℕ). with_register before r n) is)) set_next;
+  own = tt;
+  on = tt;
+  fibers = refl;
+  comps = refl;
+}
+
+pub did_say : (old new : Past) (v : Operand) (before : Context) (value : ℕ) (reply : Reply) → value ≡ value_of before v → reply ≡ reply_of (world_of old) 1 (call.Say value)
+    → new ≡ longer old (event 1 (call.Say value) reply) → Did old new (Say v) before before
+did_say old new v before value reply number answers is =
+    let here : new ≡ longer old (event 1 (call.Say (value_of before v)) Plain) = is ∙ ap (λ (p : ℕ × Reply). longer old (event 1 (call.Say p.0) p.1)) (pair number answers) in
+    did_one old new (Say v) before before (call.Say (value_of before v)) Plain (adds old new 1 (call.Say (value_of before v)) Plain here refl refl) say_next refl refl
+
+pub did_return : (old new : Past) (r : ℕ) (a : CompRef) (v : Operand) (before now : Context) (outcome : Outcome) → outcome ≡ Returned (value_of before v) → Completes old new before now r a outcome → Did old new (Return r a v) before now
+did_return old new r a v before now outcome is completes =
+    let adds = subst (λ (o : Outcome). Adds old new (event 1 (call.Complete (comp_number a) o) (Completed completes.reply))) is completes.adds in
+    did_one old new (Return r a v) before now (call.Complete (comp_number a) (Returned (value_of before v))) (Completed completes.reply) adds
+    (subst (λ (d : Context). Does 1 (Return r a v) before (event 1 (call.Complete (comp_number a) (Returned (value_of before v))) (Completed completes.reply) ∷ []) next d) (sym completes.told) (return_next completes.reply)) refl refl
+
+pub did_cancel : (old new : Past) (r : ℕ) (a : CompRef) (v : Operand) (before now : Context) (outcome : Outcome) → outcome ≡ Cancelled (value_of before v) → Completes old new before now r a outcome → Did old new (Cancel r a v) before now
+did_cancel old new r a v before now outcome is completes =
+    let adds = subst (λ (o : Outcome). Adds old new (event 1 (call.Complete (comp_number a) o) (Completed completes.reply))) is completes.adds in
+    did_one old new (Cancel r a v) before now (call.Complete (comp_number a) (Cancelled (value_of before v))) (Completed completes.reply) adds
+    (subst (λ (d : Context). Does 1 (Cancel r a v) before (event 1 (call.Complete (comp_number a) (Cancelled (value_of before v))) (Completed completes.reply) ∷ []) next d) (sym completes.told) (cancel_next completes.reply)) refl refl
+
+pub did_peek : (old new : Past) (r q : ℕ) (a : CompRef) (before now : Context) (k : ℕ) (reply : Reply) → k ≡ comp_number a → reply ≡ reply_of (world_of old) 1 (call.Peek k)
+    → new ≡ longer old (event 1 (call.Peek k) reply) → now ≡ with_register (with_register before r (state_number (seen_of reply))) q (outcome_number (seen_of reply)) → Did old new (Peek r q a) before now
+did_peek old new r q a before now k reply number answers is told =
+    let shape = peeked_is (slice_get (world_of old).comps k) in
+    let reply_is : reply ≡ Peeked shape.0 = answers ∙ shape.1 in
+    let here : new ≡ longer old (event 1 (call.Peek (comp_number a)) (Peeked shape.0)) = is ∙ ap (λ (p : ℕ × Reply). longer old (event 1 (call.Peek p.0) p.1)) (pair number reply_is) in
+    let told' : now ≡ with_register (with_register before r (state_number shape.0)) q (outcome_number shape.0) = told ∙ ap (λ (x : Reply). with_register (with_register before r (state_number (seen_of x))) q (outcome_number (seen_of x))) reply_is in
+    did_one old new (Peek r q a) before now (call.Peek (comp_number a)) (Peeked shape.0) (adds old new 1 (call.Peek (comp_number a)) (Peeked shape.0) here refl refl)
+    (subst (λ (d : Context). Does 1 (Peek r q a) before (event 1 (call.Peek (comp_number a)) (Peeked shape.0) ∷ []) next d) (sym told') (peek_next shape.0)) refl refl

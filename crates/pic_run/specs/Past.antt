@@ -1,0 +1,77 @@
+-- What the runner keeps: the history so far and the start that it goes on from; and what one statement
+-- adds to it. Only the runner's own contracts cite them.
+use Rattle.std.specs.Prelude.{◌≡◌, ℕ, ◌^◌, ◌<◌, Bool, true, false, Option, None, List, [], ◌∷◌, ◌++◌, length}
+use Rattle.std.specs.List.{AllByRecursion}
+use Rattle.pic_base.specs.declared.outcome.Outcome.{Outcome}
+use Rattle.pic_machine.specs.declared.entry.Call.TheVariants as call
+use Rattle.pic_machine.specs.declared.entry.CompleteReply.{CompleteReply}
+use Rattle.pic_machine.specs.declared.entry.Reply.{Reply}
+use Rattle.pic_machine.specs.declared.entry.Reply.TheVariants.{Completed, Peeked}
+use Rattle.pic_machine.specs.declared.entry.Happened.{Happened}
+use Rattle.pic_machine.specs.declared.state.FiberState.TheVariants.{Live}
+use Rattle.pic_machine.specs.declared.world.Start.{Start}
+use Rattle.pic_machine.specs.State.{State}
+use Rattle.pic_machine.specs.History.{event, origin_of, IsLegal, world}
+use Rattle.pic_machine.specs.Order.{IsOwn, stops}
+use Rattle.pic_run.specs.declared.program.Stmt.{Stmt}
+use Rattle.pic_run.specs.declared.program.CompRef.{CompRef}
+use Rattle.pic_run.specs.declared.program.Stmt.TheVariants.{Set, Say, Return, Cancel, Peek}
+use Rattle.pic_run.specs.Grammar.{IsRegister, IsOperand}
+use Rattle.pic_run.specs.Meaning.{Context, Does, next, comp_number, with_register, won}
+
+pub record Past : Type 0 where
+  pub start : Start
+  pub history : List Happened
+
+abbrev pub world_of : Past → State
+world_of past = world (origin_of past.start) past.history
+
+-- the history is legal, and this is the world after it
+pub record IsKept (past : Past) (machine : State) : Type 0 where
+  pub legal : IsLegal (origin_of past.start) past.history
+  pub now : machine ≡ world_of past
+
+-- main is the one fiber, and live, and the computations have numbers of 32 bits
+pub record MainRuns (w : State) : Type 0 where
+  pub fibers : w.fibers ≡ Live ∷ []
+  pub few : length w.comps < 2 ^ 32
+
+-- the statement's registers and numbers are what they may be, and its computation is one of so many
+abbrev pub StmtFits : ℕ → Stmt → Type 0
+StmtFits comps (Set r v) = IsRegister r × IsOperand v
+StmtFits comps (Say v) = IsOperand v
+StmtFits comps (Return r c v) = IsRegister r × (comp_number c < comps) × IsOperand v
+StmtFits comps (Cancel r c v) = IsRegister r × (comp_number c < comps) × IsOperand v
+StmtFits comps (Peek r q c) = IsRegister r × IsRegister q × (comp_number c < comps)
+
+-- main made one entry, in its turn
+pub record Adds (old new : Past) (h : Happened) : Type 0 where
+  pub grown : new ≡ record old { history = old.history ++ h ∷ [] }
+  pub fibers : (world_of new).fibers ≡ (world_of old).fibers
+  pub comps : length (world_of new).comps ≡ length (world_of old).comps
+
+-- main completed the computation, or found it completed, and its register tells which
+pub record Completes (old new : Past) (before now : Context) (register : ℕ) (comp : CompRef) (outcome : Outcome) : Type 0 where
+  pub reply : CompleteReply
+  pub adds : Adds old new (event 1 (call.Complete (comp_number comp) outcome) (Completed reply))
+  pub told : now ≡ with_register before register (won reply)
+
+-- what a reply says of a completion, and of a peek
+abbrev pub won_of : Reply → ℕ
+won_of (Completed reply) = won reply
+won_of _ = 0
+
+abbrev pub seen_of : Reply → Option Outcome
+seen_of (Peeked seen) = seen
+seen_of _ = None
+
+-- main's statement added these entries, all of them main's own and within its turn
+pub record Did (old new : Past) (stmt : Stmt) (before after : Context) : Type 0 where
+  pub start : new.start ≡ old.start
+  pub made : List Happened
+  pub grown : new.history ≡ old.history ++ made
+  pub does : Does 1 stmt before made next after
+  pub own : AllByRecursion (IsOwn 1) made
+  pub on : AllByRecursion (λ h. stops h.entry.call ≡ false) made
+  pub fibers : (world_of new).fibers ≡ (world_of old).fibers
+  pub comps : length (world_of new).comps ≡ length (world_of old).comps

@@ -1,0 +1,28 @@
+-- The runs of a script: which histories of the machine are one.
+use Rattle.std.specs.Prelude.{◌≡◌, ℕ, ◌+◌, Some, List, length}
+use Rattle.pic_base.specs.declared.outcome.Outcome.TheVariants.{Returned}
+use Rattle.pic_machine.specs.declared.birth.Birth.{Birth}
+use Rattle.pic_machine.specs.declared.entry.Happened.{Happened}
+use Rattle.pic_machine.specs.declared.world.Start.{Start}
+use Rattle.pic_machine.specs.History.{Origin, origin_of, IsLegal, birth_in, world}
+use Rattle.pic_machine.specs.Log.{log}
+use Rattle.pic_machine.specs.Final.{IsFinal}
+use Rattle.pic_machine.specs.Order.{IsInFifoOrder}
+use Rattle.pic_run.specs.declared.limits.TheConstants.{LIMITS}
+use Rattle.pic_run.specs.Script.{Script}
+use Rattle.pic_run.specs.Meaning.{FollowsText}
+
+-- the root and the declared computations stand, and main runs text 0
+abbrev pub start_of : Script → Start
+start_of script = record { comps = length script.comps + 1; text = 0; limits = LIMITS }
+
+abbrev pub origin : Script → Origin
+origin script = origin_of (start_of script)
+
+-- one legal history of the machine from the script's start, in which each fiber that was made follows
+-- its text from its birth, which ends in a final world, and whose turns stand in the FIFO order
+pub record IsRunOf (script : Script) (history : List Happened) : Type 0 where
+  pub legal : IsLegal (origin script) history
+  pub follows : (f : ℕ) (birth : Birth) → birth_in (origin script) history f ≡ Some birth → FollowsText script f birth (log history f)
+  pub final : IsFinal (world (origin script) history)
+  pub ordered : IsInFifoOrder history

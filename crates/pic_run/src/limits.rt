@@ -1,0 +1,7 @@
+use pic_base::Limits;
+
+/// The limits of the machine that scripts run on.
+pub const LIMITS: Limits = Limits {
+    fibers: 128,
+    comps: 65_536,
+};

@@ -9,3 +9,5 @@ pub mod Reading
 pub mod Parsing
 pub mod Running
 pub mod Whole
+pub mod Reports
+pub mod Writing

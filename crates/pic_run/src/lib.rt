@@ -3,10 +3,16 @@
 
 mod fiber;
 mod limits;
+mod output;
 pub mod program;
 mod reader;
+mod report;
+mod request;
 mod run;
 mod runner;
+mod status;
 
 pub use limits::LIMITS;
 pub use program::{CompRef, Operand, Program, Stmt};
+pub use request::{Mode, Request, RequestRefusal, request_of};
+pub use status::Status;

@@ -5,3 +5,6 @@ pub const LIMITS: Limits = Limits {
     fibers: 128,
     comps: 65_536,
 };
+
+/// How many bytes a script may have.
+pub const MOST_BYTES: usize = 16_777_216;

@@ -1,0 +1,6 @@
+use Rattle.std.proofs.Common.{length}
+use Rattle.pic_run.proofs.Reports.{Found}
+use Rattle.pic_run.proofs.report.completers.completers.Given as goal
+
+abbrev pub invariant-loop-happened : goal.invariant-loop-happened
+invariant-loop-happened l = Found l.found.items l.fn.count l.history l.happened-index

@@ -1,0 +1,99 @@
+-- The text of a report.
+use Rattle.std.proofs.Common.{zero, suc}
+use Rattle.std.specs.Prelude.{ℕ, ◌+◌, ◌==◌, if◌then◌else◌, Bool, false, Option, Some, None, unwrap_or, List, [], ◌∷◌, ◌++◌, codes, decimal, slice_index_or, slice_get}
+use Rattle.std.specs.List.{flat_map}
+use Rattle.pic_base.specs.declared.outcome.Outcome.TheVariants.{Returned, Cancelled}
+use Rattle.pic_base.specs.Outcome.{outcome_text}
+use Rattle.pic_machine.specs.declared.entry.Call.{Call}
+use Rattle.pic_machine.specs.declared.entry.Call.TheVariants.{Say, Complete}
+use Rattle.pic_machine.specs.declared.entry.CompleteReply.TheVariants.{Won}
+use Rattle.pic_machine.specs.declared.entry.Entry.{Entry}
+use Rattle.pic_machine.specs.declared.entry.Happened.{Happened}
+use Rattle.pic_machine.specs.declared.entry.Reply.{Reply}
+use Rattle.pic_machine.specs.declared.entry.Reply.TheVariants.{Completed}
+use Rattle.pic_machine.specs.declared.state.CompState.{CompState}
+use Rattle.pic_machine.specs.declared.state.CompState.TheVariants.{Running, Done}
+use Rattle.pic_machine.specs.declared.state.FiberState.{FiberState}
+use Rattle.pic_machine.specs.declared.state.FiberState.TheVariants.{Live, Ended}
+use Rattle.pic_machine.specs.State.{State}
+use Rattle.pic_machine.specs.History.{world}
+use Rattle.pic_machine.specs.Log.{log, visible}
+use Rattle.pic_run.specs.Script.{Script}
+use Rattle.pic_run.specs.Run.{origin}
+
+-- ---- fibers
+
+-- how the fiber stands: in a final world it has ended
+abbrev pub fiber_state_text : FiberState → List ℕ
+fiber_state_text Live = codes "live"
+fiber_state_text (Ended outcome) = outcome_text outcome
+
+-- the fiber's number, the name of its text (so far main's) and how it stands
+abbrev pub fiber_line : ℕ → FiberState → List ℕ
+fiber_line f state = codes "fiber " ++ (decimal f ++ (codes " main " ++ (fiber_state_text state ++ codes "\n")))
+
+abbrev pub said_line : ℕ → List ℕ
+said_line value = codes "  say " ++ (decimal value ++ codes "\n")
+
+abbrev pub said_lines : Call → List (List ℕ)
+said_lines (Say value) = said_line value ∷ []
+said_lines _ = []
+
+-- a line for each value that the fiber said, in order
+abbrev pub says_lines : List Happened → ℕ → List (List ℕ)
+says_lines hs f = flat_map (λ e. said_lines e.call) (visible (log hs f))
+
+-- a fiber's line, and what it said
+abbrev pub fiber_lines : List Happened → ℕ → FiberState → List (List ℕ)
+fiber_lines hs f state = fiber_line f state ∷ says_lines hs f
+
+-- the lines of the fibers from number f on
+abbrev pub fibers_lines : List Happened → ℕ → List FiberState → List (List ℕ)
+fibers_lines hs f [] = []
+fibers_lines hs f (state ∷ states) = fiber_lines hs f state ++ fibers_lines hs (f + 1) states
+
+-- ---- computations
+
+-- the entry completed the computation c
+abbrev pub completes : ℕ → Call → Reply → Bool
+completes c (Complete comp outcome) (Completed Won) = comp == c
+completes c _ _ = false
+
+-- the fiber whose call completed the computation
+abbrev pub completer : List Happened → ℕ → Option ℕ
+completer [] c = None
+completer (h ∷ hs) c = if completes c h.entry.call h.entry.reply then Some h.entry.fiber else completer hs c
+
+-- the root, or the name that the script declares
+abbrev pub comp_name : List (List ℕ) → ℕ → List ℕ
+comp_name names zero = codes "root"
+comp_name names (suc k) = slice_index_or names k (codes "-")
+
+-- how the computation stands, and which fiber completed it, to the line's end
+abbrev pub comp_state_text : Option ℕ → CompState → List ℕ
+comp_state_text by Running = codes "running\n"
+comp_state_text by (Done outcome) = outcome_text outcome ++ (codes " by " ++ (decimal (unwrap_or by 0) ++ codes "\n"))
+
+abbrev pub comp_line : List (List ℕ) → List Happened → ℕ → CompState → List ℕ
+comp_line names hs c state = codes "comp " ++ (decimal c ++ (codes " " ++ (comp_name names c ++ (codes " " ++ comp_state_text (completer hs c) state))))
+
+-- the lines of the computations from number c on
+abbrev pub comps_lines : List (List ℕ) → List Happened → ℕ → List CompState → List (List ℕ)
+comps_lines names hs c [] = []
+comps_lines names hs c (state ∷ states) = comp_line names hs c state ∷ comps_lines names hs (c + 1) states
+
+-- ---- the whole
+
+-- how main ended
+abbrev pub run_line : Option FiberState → List ℕ
+run_line (Some (Ended (Cancelled code))) = codes "run raised " ++ (decimal code ++ codes "\n")
+run_line _ = codes "run done\n"
+
+-- the lines of a report of this world, to which this history led
+abbrev pub report_lines : List (List ℕ) → List Happened → State → List (List ℕ)
+report_lines names hs w = (codes "picos report 1\n" ∷ [])
+    ++ (fibers_lines hs 1 w.fibers ++ (comps_lines names hs 0 w.comps ++ (codes "clock 0\n" ∷ (run_line (slice_get w.fibers 0) ∷ []))))
+
+-- the report of a history of the script
+abbrev pub report : Script → List Happened → List ℕ
+report script hs = flat_map (λ line. line) (report_lines script.comps hs (world (origin script) hs))

@@ -11,3 +11,4 @@ pub mod Running
 pub mod Whole
 pub mod Reports
 pub mod Writing
+pub mod Calls

@@ -1,5 +1,5 @@
 -- Main's whole turn: from its beginning, over its statements, to its end.
-use Rattle.std.proofs.Common.{◌≡◌, ◌≢◌, ℕ, zero, suc, ◌+◌, ◌-◌, ◌<◌, ◌≤◌, ◌^◌, ◌==◌, ◌&&◌, not, cond, Bool, true, false, List, [], ◌∷◌, ◌++◌, length, drop, filter, get_or, Option, Some, None, slice_set, refl, sym, ap, subst, ◌∙◌, arith, append_assoc, append-nil}
+use Rattle.std.proofs.Common.{◌≡◌, ◌≢◌, ℕ, zero, suc, ◌+◌, ◌-◌, ◌<◌, ◌≤◌, ◌^◌, ◌==◌, ◌&&◌, not, cond, Bool, true, false, List, [], ◌∷◌, ◌++◌, length, drop, filter, get_or, Option, Some, None, slice_get, slice_set, refl, sym, ap, subst, ◌∙◌, arith, append_assoc, append-nil}
 use Rattle.std.specs.Prelude.{All}
 use Rattle.std.specs.List.{AllByRecursion}
 use Rattle.std.proofs.lemmas.List.{drop_more, drop_all, length-replicate}
@@ -31,6 +31,7 @@ use Rattle.pic_run.specs.Script.{Script}
 use Rattle.pic_run.specs.Grammar.{IsComp, IsStmt}
 use Rattle.pic_run.specs.Meaning.{Context, Exit, next, cut, Runs, done, more, value_of, context_of, comp_number, FollowsText, ended}
 use Rattle.pic_run.specs.Run.{start_of, origin, IsRunOf}
+use Rattle.pic_run.specs.Status.{MainReturned}
 use Rattle.pic_run.specs.Past.{Past, world_of, Did, StmtFits}
 use Rattle.pic_run.proofs.Spelled.{each-append}
 use Rattle.pic_run.proofs.Running.{longer, pair}
@@ -126,7 +127,7 @@ only_main o f birth true here is = (grind (arith, nat_tests), cc)
 only_main o f birth false here is = absurd cc
 
 pub whole : (script : Script) (old new : Past) (c : Context) (v : ℕ) (reply : Reply) → UnderWay script old (length script.stmts) c → v ≡ value_of c (Reg 0) → reply ≡ Plain
-    → new ≡ longer old (event 1 (call.End (Returned v)) reply) → IsLegal (origin_of new.start) new.history → (new.start ≡ start_of script) × IsRunOf script new.history
+    → new ≡ longer old (event 1 (call.End (Returned v)) reply) → IsLegal (origin_of new.start) new.history → (new.start ≡ start_of script) × IsRunOf script new.history × MainReturned (world (origin script) new.history)
 whole script old new c v reply under value plain is legal =
     let final = event 1 (call.End (Returned (value_of c (Reg 0)))) Plain in
     let here : new ≡ longer old final = is ∙ ap (λ (p : ℕ × Reply). longer old (event 1 (call.End (Returned p.0)) p.1)) (pair value plain) in
@@ -149,4 +150,4 @@ whole script old new c v reply under value plain is legal =
       final = record { ended = subst (All (λ (fiber : FiberState). fiber ≢ Live)) (sym fibers) (all_one (Ended (Returned (value_of c (Reg 0)))) (λ live. cc)) };
       ordered = record { ready = []; turns = subst (λ (hs : List Happened). InFifo hs []) (sym history)
           (turn (under.own ++ final ∷ []) begin (record { going = under.own; final = final; is = refl; own = mine; on = under.on; last = refl })) };
-    })
+    }, record { value = value_of c (Reg 0); main = ap (λ (fs : List FiberState). slice_get fs 0) fibers })

@@ -1,5 +1,5 @@
 -- Which text a call has to write, and how the writing of it ended.
-use Rattle.std.specs.Prelude.{◌≡◌, ℕ, Option, Some, None, List, [], codes}
+use Rattle.std.specs.Prelude.{◌≡◌, ℕ, ◌≤◌, Option, Some, None, List, [], length, codes}
 use Rattle.std.specs.Io.KnownBytes.{Appends}
 use Rattle.pic_io.specs.Faults.{Rose}
 use Rattle.pic_io.specs.Held.{Held, Gives, IsLongerThan}
@@ -13,7 +13,7 @@ use Rattle.pic_run.specs.Grammar.{IsScript}
 use Rattle.pic_run.specs.Run.{IsRunOf, origin}
 use Rattle.pic_run.specs.Report.{report}
 use Rattle.pic_run.specs.Request.{Command, run, request}
-use Rattle.pic_run.specs.Status.{MainReturned}
+use Rattle.pic_run.specs.Status.{IsStatusOf}
 use Rattle.pic_run.specs.Output.{AppendsFront}
 
 -- what a call is given, and what its files told by its end: the words, what each name holds, the count
@@ -25,16 +25,22 @@ pub record Asked : Type 0 where
   pub faults_now : ℕ
   pub failed : Option (List ℕ)
 
+abbrev pub asked_of : List (List ℕ) → (List ℕ → Held) → ℕ → ℕ → Option (List ℕ) → Asked
+asked_of words held faults faults_now failed = record { words = words; held = held; faults = faults; faults_now = faults_now; failed = failed }
+
+-- what the bytes of a script have to answer: that they are none, or the report of one run of it, with
+-- main's end as the status
+pub data Answers (bytes : List ℕ) : List ℕ → Status → Type 0 where
+  refused : ((s : Script) → IsScript bytes s → ⊥) → Answers bytes (codes "refused line 0 cause 0\n") Refused
+  ran : (s : Script) (history : List Happened) → IsScript bytes s → IsRunOf s history → IsStatusOf (world (origin s) history) Done → Answers bytes (report s history) Done
+
 -- the text is due, with this status where it is written whole
 pub data Due (asked : Asked) : List ℕ → Status → Type 0 where
   usage : request asked.words ≡ None → Due asked (codes "usage\n") Usage
   read_fault : {script input : List ℕ} → request asked.words ≡ Some (run script input) → Rose asked.faults asked.faults_now → asked.failed ≡ Some script
       → Due asked (codes "read fault\n") ReadFault
   too_large : {script input : List ℕ} → request asked.words ≡ Some (run script input) → IsLongerThan (asked.held script) MOST_BYTES → Due asked (codes "too large\n") TooLarge
-  refused : {script input bytes : List ℕ} → request asked.words ≡ Some (run script input) → Gives (asked.held script) bytes → ((s : Script) → IsScript bytes s → ⊥)
-      → Due asked (codes "refused line 0 cause 0\n") Refused
-  ran : {script input bytes : List ℕ} (s : Script) (history : List Happened) → request asked.words ≡ Some (run script input) → Gives (asked.held script) bytes → IsScript bytes s → IsRunOf s history
-      → MainReturned (world (origin s) history) → Due asked (report s history) Done
+  answer : {script input bytes text : List ℕ} {status : Status} → request asked.words ≡ Some (run script input) → Gives (asked.held script) bytes → length bytes ≤ MOST_BYTES → Answers bytes text status → Due asked text status
 
 -- how the writing ended: the whole text with its status, or a front of it with a fault of the sink, or
 -- with want of memory

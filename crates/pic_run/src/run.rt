@@ -2,7 +2,9 @@
 ghost use Rattle.std.specs.Prelude.{◌≡◌, ◌≤◌, length, IfOk};
 ghost use Rattle.std.specs.List.{AllByRecursion};
 ghost use Rattle.pic_run.specs.Grammar.{IsStmt};
-ghost use Rattle.pic_run.specs.Run.{IsRunOf, start_of};
+ghost use Rattle.pic_run.specs.Run.{IsRunOf, origin, start_of};
+ghost use Rattle.pic_run.specs.Status.{MainReturned};
+ghost use Rattle.pic_machine.specs.History.{world};
 
 use crate::fiber::{Fiber, MAIN};
 use crate::limits::LIMITS;
@@ -18,6 +20,7 @@ pub(crate) fn run_program(alloc: Global, program: &Program) -> Result<Runner, Me
     requires valid { AllByRecursion (IsStmt program.now.comps) program.now.stmts }
     ensures start { IfOk result (λ past. past.start ≡ start_of program.now) }
     ensures run { IfOk result (λ past. IsRunOf program.now past.history) }
+    ensures returned { IfOk result (λ past. MainReturned (world (origin program.now) past.history)) }
 {
     let start = start_of(program);
     let mut runner = Runner::open(alloc, &start)?;

@@ -1,0 +1,36 @@
+use Rattle.std.proofs.Common.{List, ℕ, map, sym, subst, ap, ◌∙◌}
+use Rattle.std.specs.List.{flat_map}
+use Rattle.std.specs.String.{string_bytes}
+use Rattle.std.proofs.KnownBytes.{Appends-nil}
+use Rattle.pic_run.specs.declared.status.Status.TheVariants.{Done}
+use Rattle.pic_run.specs.Output.{Puts}
+use Rattle.pic_run.specs.Due.{asked_of, gave_up}
+use Rattle.pic_run.proofs.Calls.{serves_put}
+use Rattle.pic_run.proofs.call.call_once.Goals as goal
+
+pub returns-in_default-clause-serves : goal.returns-in_default-clause-serves
+returns-in_default-clause-serves g c = gave_up (Appends-nil (g.K.Sink.taken c.args.out.now))
+
+pub returns-in-Text-clause-serves : goal.returns-in-Text-clause-serves
+returns-in-Text-clause-serves g c =
+    let before = g.K.Sink.taken c.args.out.now in
+    let now = g.K.Sink.taken c.put_all.new.out in
+    let faults = g.K.Sink.fault_count c.args.out.now in
+    let faults_now = g.K.Sink.fault_count c.put_all.new.out in
+    let due = rw c.in-Text.is at c.in-Ok.ensures.due in
+    let puts = subst (λ (w : List ℕ). Puts before now faults faults_now w c.put_all.result) c.as_bytes.ensures.value c.put_all.ensures in
+    rw c.ended.ensures
+    (serves_put (asked_of (map string_bytes c.args.words.now) (g.F.Files.held c.args.files.now) (g.F.Files.fault_count c.args.files.now) (g.F.Files.fault_count c.answer_of.new.files) (g.F.Files.last_failed c.answer_of.new.files))
+    before now faults faults_now c.in-Text.text.now c.in-Text.status c.put_all.result due puts)
+
+pub returns-in-Report-clause-serves : goal.returns-in-Report-clause-serves
+returns-in-Report-clause-serves g c =
+    let before = g.K.Sink.taken c.args.out.now in
+    let now = g.K.Sink.taken c.put_lines.new.out in
+    let faults = g.K.Sink.fault_count c.args.out.now in
+    let faults_now = g.K.Sink.fault_count c.put_lines.new.out in
+    let due = rw c.in-Report.is at c.in-Ok.ensures.due in
+    let puts = subst (λ (ls : List (List ℕ)). Puts before now faults faults_now (flat_map (λ line. line) ls) c.put_lines.result) c.as_slice.ensures c.put_lines.ensures in
+    rw c.ended-in-Report.ensures
+    (serves_put (asked_of (map string_bytes c.args.words.now) (g.F.Files.held c.args.files.now) (g.F.Files.fault_count c.args.files.now) (g.F.Files.fault_count c.answer_of.new.files) (g.F.Files.last_failed c.answer_of.new.files))
+    before now faults faults_now (flat_map (λ line. line) c.in-Report.lines) Done c.put_lines.result due puts)

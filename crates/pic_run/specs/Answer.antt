@@ -1,0 +1,23 @@
+-- What the top call has made ready to write. Only its own contracts cite these words.
+use Rattle.std.specs.Prelude.{ℕ, List, Result, Ok, Err}
+use Rattle.std.specs.List.{flat_map}
+use Rattle.pic_run.specs.declared.answer.Answer.{Answer}
+use Rattle.pic_run.specs.declared.answer.Answer.TheVariants.{Text, Report}
+use Rattle.pic_run.specs.declared.output.WriteRefusal.{WriteRefusal}
+use Rattle.pic_run.specs.declared.output.WriteRefusal.TheVariants as refusal
+use Rattle.pic_run.specs.declared.status.Status.{Status}
+use Rattle.pic_run.specs.declared.status.Status.TheVariants.{Done, WriteFault, OutOfMemory}
+
+abbrev pub answer_text : Answer → List ℕ
+answer_text (Text text status) = text.now
+answer_text (Report lines) = flat_map (λ line. line) lines
+
+abbrev pub answer_status : Answer → Status
+answer_status (Text text status) = status
+answer_status (Report lines) = Done
+
+-- the status of a call whose text was written so
+abbrev pub ended_status : Result (Unit {0}) WriteRefusal → Status → Status
+ended_status (Ok u) good = good
+ended_status (Err refusal.WriteFault) good = WriteFault
+ended_status (Err refusal.Memory) good = OutOfMemory

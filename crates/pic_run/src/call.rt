@@ -1,0 +1,90 @@
+//! The top call.
+ghost use Rattle.std.specs.Prelude.{◌≡◌, ◌≤◌, ◌⊎◌, ◌<◌, ℕ, List, Some, None, length, map, string_bytes, codes};
+ghost use Rattle.std.specs.Io.KnownBytes.{Appends};
+ghost use Rattle.pic_io.specs.Faults.{Rose};
+ghost use Rattle.pic_io.specs.Held.{holds};
+ghost use Rattle.pic_run.specs.declared.limits.TheConstants.{MOST_BYTES};
+ghost use Rattle.pic_run.specs.Script.{Script};
+ghost use Rattle.pic_run.specs.Grammar.{IsScript};
+ghost use Rattle.pic_run.specs.Request.{request, run};
+ghost use Rattle.pic_run.specs.Due.{Serves, asked_of};
+ghost use Rattle.pic_run.specs.Headline.{Headline, ReadFaultBy, RefusedBy, TookNoMore, TooLargeBy};
+ghost use Rattle.pic_run.specs.Answer.{ended_status};
+
+use crate::answer::{Answer, answer_of};
+use crate::output::{WriteRefusal, put_all, put_lines};
+use crate::status::Status;
+use pic_io::{Files, Sink};
+use std::alloc::Global;
+
+/// Does what the words ask for: reads the script, runs it, and writes its report, or one line that
+/// says why there is none. The words are the arguments without the program's name; the file of the
+/// input is not opened yet, since no statement reads it. Want of memory may come at any point.
+pub fn run_one_call<F: Files, K: Sink>(
+    alloc: Global,
+    words: &[String],
+    files: &mut F,
+    out: &mut K,
+) -> Status
+    // A run: one legal history of the machine, and its report.
+    ensures headline { result ≡ Status.Done → Headline (asked_of (map string_bytes words.now) (F.held files.old) (F.fault_count files.old) (F.fault_count files.new) (F.last_failed files.new)) (K.taken out.old) (K.taken out.new) result }
+
+    // When each other answer comes, and what the sink took with it.
+    ensures usage { result ≡ Status.Usage → (request (map string_bytes words.now) ≡ None) × Appends (K.taken out.old) (K.taken out.new) (codes "usage\n") }
+    ensures refused { result ≡ Status.Refused → RefusedBy (asked_of (map string_bytes words.now) (F.held files.old) (F.fault_count files.old) (F.fault_count files.new) (F.last_failed files.new)) (K.taken out.old) (K.taken out.new) }
+    ensures read_fault { result ≡ Status.ReadFault → ReadFaultBy (asked_of (map string_bytes words.now) (F.held files.old) (F.fault_count files.old) (F.fault_count files.new) (F.last_failed files.new)) (K.taken out.old) (K.taken out.new) }
+    ensures too_large { result ≡ Status.TooLarge → TooLargeBy (asked_of (map string_bytes words.now) (F.held files.old) (F.fault_count files.old) (F.fault_count files.new) (F.last_failed files.new)) (K.taken out.old) (K.taken out.new) }
+    ensures write_fault { result ≡ Status.WriteFault → Rose (K.fault_count out.old) (K.fault_count out.new) × TookNoMore (asked_of (map string_bytes words.now) (F.held files.old) (F.fault_count files.old) (F.fault_count files.new) (F.last_failed files.new)) (K.taken out.old) (K.taken out.new) }
+    ensures out_of_memory { result ≡ Status.OutOfMemory → TookNoMore (asked_of (map string_bytes words.now) (F.held files.old) (F.fault_count files.old) (F.fault_count files.new) (F.last_failed files.new)) (K.taken out.old) (K.taken out.new) }
+
+    // Words that are no request get no other answer, and no file is read for them.
+    ensures no_request { request (map string_bytes words.now) ≡ None → (result ≡ Status.Usage) ⊎ ((result ≡ Status.WriteFault) ⊎ (result ≡ Status.OutOfMemory)) }
+    ensures untouched { request (map string_bytes words.now) ≡ None → files.new ≡ files.old }
+
+    // A script within the size is run, unless a fault occurs in this call.
+    ensures accepted { (script input bytes : List ℕ) → request (map string_bytes words.now) ≡ Some (run script input) → F.held files.old script ≡ holds bytes
+        → (Rose (F.fault_count files.old) (F.fault_count files.new) → ⊥) → length bytes ≤ MOST_BYTES → (Rose (K.fault_count out.old) (K.fault_count out.new) → ⊥)
+        → (s : Script) → IsScript bytes s → (result ≡ Status.Done) ⊎ (result ≡ Status.OutOfMemory) }
+
+    // Bytes within the size that are no script are refused, and longer ones are too large.
+    ensures outside { (script input bytes : List ℕ) → request (map string_bytes words.now) ≡ Some (run script input) → F.held files.old script ≡ holds bytes
+        → (Rose (F.fault_count files.old) (F.fault_count files.new) → ⊥) → length bytes ≤ MOST_BYTES → ((s : Script) → IsScript bytes s → ⊥)
+        → (result ≡ Status.Refused) ⊎ ((result ≡ Status.WriteFault) ⊎ (result ≡ Status.OutOfMemory)) }
+    ensures longer { (script input bytes : List ℕ) → request (map string_bytes words.now) ≡ Some (run script input) → F.held files.old script ≡ holds bytes
+        → (Rose (F.fault_count files.old) (F.fault_count files.new) → ⊥) → MOST_BYTES < length bytes
+        → (result ≡ Status.TooLarge) ⊎ ((result ≡ Status.WriteFault) ⊎ (result ≡ Status.OutOfMemory)) }
+    ensures kept { (name : List ℕ) → F.held files.new name ≡ F.held files.old name }
+{
+    call_once(alloc, words, files, out)
+}
+
+/// The same, with all that is known of the answer as one fact.
+fn call_once<F: Files, K: Sink>(
+    alloc: Global,
+    words: &[String],
+    files: &mut F,
+    out: &mut K,
+) -> Status
+    ensures serves { Serves (asked_of (map string_bytes words.now) (F.held files.old) (F.fault_count files.old) (F.fault_count files.new) (F.last_failed files.new)) (K.taken out.old) (K.taken out.new) (K.fault_count out.old) (K.fault_count out.new) result }
+    ensures untouched { request (map string_bytes words.now) ≡ None → files.new ≡ files.old }
+    ensures kept { (name : List ℕ) → F.held files.new name ≡ F.held files.old name }
+{
+    let Ok(answer) = answer_of(alloc, words, files) else {
+        return Status::OutOfMemory;
+    };
+    match answer {
+        Answer::Text(text, status) => ended(put_all(out, text.as_bytes()), status),
+        Answer::Report(lines) => ended(put_lines(out, lines.as_slice()), Status::Done),
+    }
+}
+
+/// The status of a call whose text was written so.
+fn ended(written: Result<(), WriteRefusal>, good: Status) -> Status
+    ensures { result ≡ ended_status written good }
+{
+    match written {
+        Ok(()) => good,
+        Err(WriteRefusal::WriteFault) => Status::WriteFault,
+        Err(WriteRefusal::Memory) => Status::OutOfMemory,
+    }
+}

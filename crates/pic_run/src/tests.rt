@@ -1,0 +1,80 @@
+//! Worked scripts with their reports, faults of files and sinks, and words.
+use super::*;
+use pic_io::{MemFiles, MemSink};
+use std::alloc::Global;
+use std::test::Fail;
+
+const FIRST: &[u8] = b"picos 1\nmain\nend\n";
+
+const FIRST_REPORT: &[u8] =
+    b"picos report 1\nfiber 1 main returned 0\ncomp 0 root running\nclock 0\nrun done\n";
+
+/// The words of a command line.
+fn words(alloc: Global, texts: &[&str]) -> Result<Vec<String>, Fail> {
+    let mut words = Vec::new(alloc);
+    for text in texts {
+        words.push(String::from_str(alloc, text)?)?;
+    }
+    Ok(words)
+}
+
+/// A file `a` of this content.
+fn file_a(alloc: Global, content: &[u8]) -> Result<MemFiles, Fail> {
+    let mut files = MemFiles::new(alloc);
+    files.add("a", content)?;
+    Ok(files)
+}
+
+#[test]
+fn reports(rt: HostRuntime) -> Result<(), Fail> {
+    let alloc = rt.alloc();
+    let table: [(&[u8], Status, &[u8]); 4] = [
+        (FIRST, Status::Done, FIRST_REPORT),
+        (
+            b"picos 1\ncomp a\nmain\nreturn r1 a 5\nreturn r2 a 6\ncancel r3 a 7\nsay r1\nsay r2\nsay r3\npeek r4 r5 a\nsay r5\nend\n",
+            Status::Done,
+            b"picos report 1\nfiber 1 main returned 0\n  say 1\n  say 0\n  say 0\n  say 5\ncomp 0 root running\ncomp 1 a returned 5 by 1\nclock 0\nrun done\n",
+        ),
+        (
+            b"picos 1\nmain\nset r0 7\ncancel r1 root 9\npeek r2 r3 root\nsay r2\nsay r3\nend\n",
+            Status::Done,
+            b"picos report 1\nfiber 1 main returned 7\n  say 2\n  say 9\ncomp 0 root cancelled 9 by 1\nclock 0\nrun done\n",
+        ),
+        (
+            b"picos 1\n main\nend\n",
+            Status::Refused,
+            b"refused line 0 cause 0\n",
+        ),
+    ];
+    let words = words(alloc, &["run", "a", "b"])?;
+    for (script, status, text) in table {
+        let mut files = file_a(alloc, script)?;
+        let mut out = MemSink::new(alloc);
+        let ended = run_one_call(alloc, words.as_slice(), &mut files, &mut out);
+        assert_eq!(rt; ended, status);
+        assert_eq!(rt; out.bytes.as_slice(), text);
+    }
+    Ok(())
+}
+
+#[test]
+fn words_without_a_request(rt: HostRuntime) -> Result<(), Fail> {
+    let alloc = rt.alloc();
+    let table: [&[&str]; 5] = [
+        &[],
+        &["run", "a"],
+        &["run", "a", "-b"],
+        &["walk", "a", "b"],
+        &["run", "a", "b", "c"],
+    ];
+    for texts in table {
+        let words = words(alloc, texts)?;
+        let mut files = file_a(alloc, FIRST)?;
+        let mut out = MemSink::new(alloc);
+        let ended = run_one_call(alloc, words.as_slice(), &mut files, &mut out);
+        assert_eq!(rt; ended, Status::Usage);
+        assert_eq!(rt; out.bytes.as_slice(), b"usage\n".as_slice());
+        assert_eq!(rt; files.calls, 0);
+    }
+    Ok(())
+}

@@ -30,7 +30,11 @@ impl Model for World {
 
     ghost Value = { State };
 
-    ghost view = { λ world. record { comps = world.comps.items; fibers = world.fibers.items; limits = world.limits } };
+    ghost view = { λ world. record {
+        comps = world.comps.items;
+        fibers = world.fibers.items;
+        limits = world.limits;
+    } };
 }
 
 impl World {

@@ -68,7 +68,7 @@ module _ (asked : Asked) (before now : Option (List ℕ)) (faults faults_now : �
   told (wrote due ends) = told_end due ends
   told (gave_up none) = told_nothing none
 
-  due_headline : {text : List ℕ} {status : Status} → Due asked text status → Appends before now text → status ≡ Done → Headline asked before now status
+  due_headline : {text : List ℕ} {status : Status} → Due asked text status → Appends before now text → status ≡ Done → Headline asked.words asked.held before now status
   due_headline (usage none) appends is = absurd cc
   due_headline (read_fault asks rose named) appends is = absurd cc
   due_headline (too_large asks longer) appends is = absurd cc
@@ -90,7 +90,7 @@ module _ (asked : Asked) (before now : Option (List ℕ)) (faults faults_now : �
     ordered = is_run.ordered;
   }
 
-  pub told_headline : {status : Status} → Told status → status ≡ Done → Headline asked before now status
+  pub told_headline : {status : Status} → Told status → status ≡ Done → Headline asked.words asked.held before now status
   told_headline (told_whole due appends) is = due_headline due appends is
   told_headline (told_fault due front rose) is = absurd cc
   told_headline (told_memory due front) is = absurd cc
@@ -109,40 +109,40 @@ module _ (asked : Asked) (before now : Option (List ℕ)) (faults faults_now : �
   told_usage (told_memory due front) is = absurd cc
   told_usage (told_nothing none) is = absurd cc
 
-  due_refused : {text : List ℕ} {status : Status} → Due asked text status → Appends before now text → status ≡ Refused → RefusedBy asked before now
+  due_refused : {text : List ℕ} {status : Status} → Due asked text status → Appends before now text → status ≡ Refused → RefusedBy asked.words asked.held before now
   due_refused (usage none) appends is = absurd cc
   due_refused (read_fault asks rose named) appends is = absurd cc
   due_refused (too_large asks longer) appends is = absurd cc
   due_refused (answer {script} {input} {bytes} asks given within (refused none)) appends is = record { script_name = script; input_name = input; asks = asks; bytes = bytes; given = given; none = none; written = appends }
   due_refused (answer asks given within (ran s history reads is_run ended)) appends is = absurd cc
 
-  pub told_refused : {status : Status} → Told status → status ≡ Refused → RefusedBy asked before now
+  pub told_refused : {status : Status} → Told status → status ≡ Refused → RefusedBy asked.words asked.held before now
   told_refused (told_whole due appends) is = due_refused due appends is
   told_refused (told_fault due front rose) is = absurd cc
   told_refused (told_memory due front) is = absurd cc
   told_refused (told_nothing none) is = absurd cc
 
-  due_read_fault : {text : List ℕ} {status : Status} → Due asked text status → Appends before now text → status ≡ ReadFault → ReadFaultBy asked before now
+  due_read_fault : {text : List ℕ} {status : Status} → Due asked text status → Appends before now text → status ≡ ReadFault → ReadFaultBy asked.words asked.faults asked.faults_now asked.failed before now
   due_read_fault (usage none) appends is = absurd cc
   due_read_fault (read_fault {script} {input} asks rose named) appends is = record { script_name = script; input_name = input; asks = asks; rose = rose; named = named; written = appends }
   due_read_fault (too_large asks longer) appends is = absurd cc
   due_read_fault (answer asks given within (refused none)) appends is = absurd cc
   due_read_fault (answer asks given within (ran s history reads is_run ended)) appends is = absurd cc
 
-  pub told_read_fault : {status : Status} → Told status → status ≡ ReadFault → ReadFaultBy asked before now
+  pub told_read_fault : {status : Status} → Told status → status ≡ ReadFault → ReadFaultBy asked.words asked.faults asked.faults_now asked.failed before now
   told_read_fault (told_whole due appends) is = due_read_fault due appends is
   told_read_fault (told_fault due front rose) is = absurd cc
   told_read_fault (told_memory due front) is = absurd cc
   told_read_fault (told_nothing none) is = absurd cc
 
-  due_too_large : {text : List ℕ} {status : Status} → Due asked text status → Appends before now text → status ≡ TooLarge → TooLargeBy asked before now
+  due_too_large : {text : List ℕ} {status : Status} → Due asked text status → Appends before now text → status ≡ TooLarge → TooLargeBy asked.words asked.held before now
   due_too_large (usage none) appends is = absurd cc
   due_too_large (read_fault asks rose named) appends is = absurd cc
   due_too_large (too_large {script} {input} asks longer) appends is = record { script_name = script; input_name = input; asks = asks; longer = longer; written = appends }
   due_too_large (answer asks given within (refused none)) appends is = absurd cc
   due_too_large (answer asks given within (ran s history reads is_run ended)) appends is = absurd cc
 
-  pub told_too_large : {status : Status} → Told status → status ≡ TooLarge → TooLargeBy asked before now
+  pub told_too_large : {status : Status} → Told status → status ≡ TooLarge → TooLargeBy asked.words asked.held before now
   told_too_large (told_whole due appends) is = due_too_large due appends is
   told_too_large (told_fault due front rose) is = absurd cc
   told_too_large (told_memory due front) is = absurd cc

@@ -42,7 +42,7 @@ module _ {A : Type 0} (f : A → List ℕ) (last : List ℕ) (P : A → Type 0) 
       absurd (apart x px.0 (cut_unique 10 (f x) (lines f xs ++ rest) last tail (whole x px.0) last_whole (sym (first_line f x xs rest) ∙ (is ∙ line_then last tail))).0)
   left_of (x ∷ xs) (y ∷ ys) rest tail px py is =
       let parts = cut_unique 10 (f x) (lines f xs ++ rest) (f y) (lines f ys ++ (line last ++ tail)) (whole x px.0) (whole y py.0)
-          (sym (first_line f x xs rest) ∙ (is ∙ first_line f y ys (line last ++ tail))) in
+      (sym (first_line f x xs rest) ∙ (is ∙ first_line f y ys (line last ++ tail))) in
       let later = left_of xs ys rest tail px.1 py.1 parts.1 in
       record {
         front = y ∷ later.front;

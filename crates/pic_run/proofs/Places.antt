@@ -82,10 +82,12 @@ place_from-push n name (first ∷ names) last new =
 pub places-push : (names : List (List ℕ)) (last : List ℕ) (key : String Global) (old new : HashMap (String Global) ℕ (BuildHasherDefault FoldHasher))
     → (place : ℕ) → ArePlaces names old → list_any (bytes_eq last) names ≡ false → string_bytes key ≡ last → place ≡ length names
     → UpdatesBy string_eq (string_eq key) old new (Some place) → ArePlaces (names ++ last ∷ []) new
-places-push names last key old new place kept free is at updates = record { each = λ name.
-    let far : 0 + length names ≡ length names = omega arith in
-    let pushed = rw far at (place_from-push 0 name names last free) in
-    hash_map_updates_text (string_bytes key) old new (Some place) updates name ∙ rw (is, kept.each name, at) (sym pushed) }
+places-push names last key old new place kept free is at updates = record {
+  each = λ name.
+      let far : 0 + length names ≡ length names = omega arith in
+      let pushed = rw far at (place_from-push 0 name names last free) in
+      hash_map_updates_text (string_bytes key) old new (Some place) updates name ∙ rw (is, kept.each name, at) (sym pushed);
+}
 
 module _ (names : List (List ℕ)) (name : List ℕ) where
   at_place : (o : Option ℕ) → MatchOption o (list_any (bytes_eq name) names ≡ false) (λ k. (0 ≤ k) × (slice_get names (k - 0) ≡ Some name))

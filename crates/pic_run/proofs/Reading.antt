@@ -116,7 +116,7 @@ pub comps_unique : (text : List ℕ) (names comps : List (List ℕ)) (rest tail 
     → text ≡ flat_map comp_line names ++ (line (codes "main") ++ rest) → text ≡ flat_map comp_line comps ++ (line (codes "main") ++ tail) → (comps ≡ names) × (rest ≡ tail)
 comps_unique text names comps rest tail free free' is same =
     let both = ended comp_spelling (codes "main") IsNamed comp_whole main_whole comp_apart names comps text (line (codes "main") ++ rest) (codes "main") rest tail is
-        (free_names reserved names free) (free_names reserved comps free') (append_assoc (codes "main") (10 ∷ []) rest) main_whole refl same in
+    (free_names reserved names free) (free_names reserved comps free') (append_assoc (codes "main") (10 ∷ []) rest) main_whole refl same in
     (same_names comps names both.0, both.1)
 
 -- ---- statements

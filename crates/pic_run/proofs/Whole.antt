@@ -135,19 +135,25 @@ whole script old new c v reply under value plain is legal =
     let history : new.history ≡ event 1 call.Turn Plain ∷ (under.own ++ final ∷ []) = ap (λ (p : Past). p.history) here ∙ ap (λ (hs : List Happened). hs ++ final ∷ []) under.is in
     let mine : AllByRecursion (IsOwn 1) (under.own ++ final ∷ []) = each-append (IsOwn 1) under.own (final ∷ []) under.mine (record { by = refl; within = refl }, tt) in
     let runs : Runs 1 script.stmts first under.own next c = subst (λ (hs : List Happened). Runs 1 script.stmts first hs next c) (append-nil under.own)
-        (under.runs [] next c (subst (λ (ss : List Stmt). Runs 1 ss c [] next c) (sym (drop_all (length script.stmts) script.stmts (omega arith))) done)) in
+    (under.runs [] next c (subst (λ (ss : List Stmt). Runs 1 ss c [] next c) (sym (drop_all (length script.stmts) script.stmts (omega arith))) done)) in
     let logs : log new.history 1 ≡ under.own ++ final ∷ [] = ap (λ (hs : List Happened). log hs 1) history ∙ own_log (under.own ++ final ∷ []) mine in
     let main : FollowsText script 1 (record { text = 0; value = 0; current = 0 }) (log new.history 1) = subst (λ (hs : List Happened). FollowsText script 1 (record { text = 0; value = 0; current = 0 }) hs) (sym logs) (ended runs) in
     let fibers : (world (origin script) new.history).fibers ≡ Ended (Returned (value_of c (Reg 0))) ∷ [] =
-        ap (λ (hs : List Happened). (world (origin script) hs).fibers) (ap (λ (p : Past). p.history) here)
-        ∙ (ap (λ (w : State). w.fibers) (world-push (origin script) old.history final)
-        ∙ ap (λ (fs : List FiberState). slice_set fs 0 (Ended (Returned (value_of c (Reg 0))))) (ap (λ (s : Start). (world (origin_of s) old.history).fibers) (sym under.start) ∙ under.fibers)) in
-    (start, record {
-      legal = subst (λ (s : Start). IsLegal (origin_of s) new.history) start legal;
-      follows = λ f birth made.
-          let only = only_main (origin script).main f birth (f == 1) refl made in
-          rw (only.0, only.1) main;
-      final = record { ended = subst (All (λ (fiber : FiberState). fiber ≢ Live)) (sym fibers) (all_one (Ended (Returned (value_of c (Reg 0)))) (λ live. cc)) };
-      ordered = record { ready = []; turns = subst (λ (hs : List Happened). InFifo hs []) (sym history)
-          (turn (under.own ++ final ∷ []) begin (record { going = under.own; final = final; is = refl; own = mine; on = under.on; last = refl })) };
-    }, record { value = value_of c (Reg 0); main = ap (λ (fs : List FiberState). slice_get fs 0) fibers })
+    ap (λ (hs : List Happened). (world (origin script) hs).fibers) (ap (λ (p : Past). p.history) here)
+    ∙ (ap (λ (w : State). w.fibers) (world-push (origin script) old.history final)
+    ∙ ap (λ (fs : List FiberState). slice_set fs 0 (Ended (Returned (value_of c (Reg 0))))) (ap (λ (s : Start). (world (origin_of s) old.history).fibers) (sym under.start) ∙ under.fibers)) in (
+      start,
+      record {
+        legal = subst (λ (s : Start). IsLegal (origin_of s) new.history) start legal;
+        follows = λ f birth made.
+            let only = only_main (origin script).main f birth (f == 1) refl made in
+            rw (only.0, only.1) main;
+        final = record { ended = subst (All (λ (fiber : FiberState). fiber ≢ Live)) (sym fibers) (all_one (Ended (Returned (value_of c (Reg 0)))) (λ live. cc)) };
+        ordered = record {
+          ready = [];
+          turns = subst (λ (hs : List Happened). InFifo hs []) (sym history)
+              (turn (under.own ++ final ∷ []) begin (record { going = under.own; final = final; is = refl; own = mine; on = under.on; last = refl }));
+        };
+      },
+      record { value = value_of c (Reg 0); main = ap (λ (fs : List FiberState). slice_get fs 0) fibers },
+    )

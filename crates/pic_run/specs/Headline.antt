@@ -2,7 +2,7 @@
 use Rattle.std.specs.Prelude.{◌≡◌, ℕ, Option, Some, List, ◌⊎◌, [], codes}
 use Rattle.std.specs.Io.KnownBytes.{Appends}
 use Rattle.pic_io.specs.Faults.{Rose}
-use Rattle.pic_io.specs.Held.{Gives, IsLongerThan}
+use Rattle.pic_io.specs.Held.{Held, Gives, IsLongerThan}
 use Rattle.pic_machine.specs.declared.birth.Birth.{Birth}
 use Rattle.pic_machine.specs.declared.entry.Happened.{Happened}
 use Rattle.pic_machine.specs.History.{IsLegal, birth_in, world}
@@ -23,19 +23,21 @@ use Rattle.pic_run.specs.Due.{Asked, Due}
 
 -- The words ask for a run of a script's file, whose bytes are a script, and there is one history such
 -- that:
-pub record Headline (asked : Asked) (before now : Option (List ℕ)) (status : Status) : Type 0 where
+pub record Headline (words : List (List ℕ)) (held : List ℕ → Held) (before now : Option (List ℕ)) (status : Status)
+    : Type 0 where
   pub script_name : List ℕ
   pub input_name : List ℕ
-  pub asks : request asked.words ≡ Some (run script_name input_name)
+  pub asks : request words ≡ Some (run script_name input_name)
   pub bytes : List ℕ
-  pub given : Gives (asked.held script_name) bytes
+  pub given : Gives (held script_name) bytes
   pub script : Script
   pub reads : IsScript bytes script
   pub history : List Happened
   -- it is a legal history of the machine from the script's start
   pub legal : IsLegal (origin script) history
   -- each fiber's calls stand in it once, in its text's order, with the replies that it got
-  pub follows : (f : ℕ) (birth : Birth) → birth_in (origin script) history f ≡ Some birth → FollowsText script f birth (log history f)
+  pub follows : (f : ℕ) (birth : Birth) → birth_in (origin script) history f ≡ Some birth
+      → FollowsText script f birth (log history f)
   -- it ends with every fiber ended
   pub final : IsFinal (world (origin script) history)
   -- the sink took exactly its report
@@ -58,28 +60,29 @@ TookNoMore asked before now = Appends before now [] ⊎ TookFront asked before n
 
 -- The script was refused: the words ask for a run of a file whose bytes are no script, and the sink
 -- took the line that says so.
-pub record RefusedBy (asked : Asked) (before now : Option (List ℕ)) : Type 0 where
+pub record RefusedBy (words : List (List ℕ)) (held : List ℕ → Held) (before now : Option (List ℕ)) : Type 0 where
   pub script_name : List ℕ
   pub input_name : List ℕ
-  pub asks : request asked.words ≡ Some (run script_name input_name)
+  pub asks : request words ≡ Some (run script_name input_name)
   pub bytes : List ℕ
-  pub given : Gives (asked.held script_name) bytes
+  pub given : Gives (held script_name) bytes
   pub none : (script : Script) → IsScript bytes script → ⊥
   pub written : Appends before now (codes "refused line 0 cause 0\n")
 
 -- A read failed: the files' faults rose in this call, and the last failed read was of the script.
-pub record ReadFaultBy (asked : Asked) (before now : Option (List ℕ)) : Type 0 where
+pub record ReadFaultBy (words : List (List ℕ)) (faults faults_now : ℕ) (failed : Option (List ℕ))
+    (before now : Option (List ℕ)) : Type 0 where
   pub script_name : List ℕ
   pub input_name : List ℕ
-  pub asks : request asked.words ≡ Some (run script_name input_name)
-  pub rose : Rose asked.faults asked.faults_now
-  pub named : asked.failed ≡ Some script_name
+  pub asks : request words ≡ Some (run script_name input_name)
+  pub rose : Rose faults faults_now
+  pub named : failed ≡ Some script_name
   pub written : Appends before now (codes "read fault\n")
 
 -- The script's file is longer than a script may be.
-pub record TooLargeBy (asked : Asked) (before now : Option (List ℕ)) : Type 0 where
+pub record TooLargeBy (words : List (List ℕ)) (held : List ℕ → Held) (before now : Option (List ℕ)) : Type 0 where
   pub script_name : List ℕ
   pub input_name : List ℕ
-  pub asks : request asked.words ≡ Some (run script_name input_name)
-  pub longer : IsLongerThan (asked.held script_name) MOST_BYTES
+  pub asks : request words ≡ Some (run script_name input_name)
+  pub longer : IsLongerThan (held script_name) MOST_BYTES
   pub written : Appends before now (codes "too large\n")

@@ -29,7 +29,10 @@ pub(crate) fn answer_of<F: Files>(
     words: &[String],
     files: &mut F,
 ) -> Result<Answer, Memory>
-    ensures due { IfOk result (λ answer. Due (asked_of (map string_bytes words.now) (F.held files.old) (F.fault_count files.old) (F.fault_count files.new) (F.last_failed files.new)) (answer_text answer) (answer_status answer)) }
+    ensures due { IfOk result (λ answer.
+        Due (asked_of (map string_bytes words.now) (F.held files.old)
+        (F.fault_count files.old) (F.fault_count files.new) (F.last_failed files.new))
+        (answer_text answer) (answer_status answer)) }
     ensures untouched { request (map string_bytes words.now) ≡ None → files.new ≡ files.old }
     ensures kept { (name : List ℕ) → F.held files.new name ≡ F.held files.old name }
 {
@@ -44,12 +47,12 @@ pub(crate) fn answer_of<F: Files>(
 }
 
 /// What a run of the script of this file has to write.
-fn answer_of_file<F: Files>(
-    alloc: Global,
-    files: &mut F,
-    script: &str,
-) -> Result<Answer, Memory>
-    ensures due { IfOk result (λ answer. (words : List (List ℕ)) (input : List ℕ) → request words ≡ Some (run script.now input) → Due (asked_of words (F.held files.old) (F.fault_count files.old) (F.fault_count files.new) (F.last_failed files.new)) (answer_text answer) (answer_status answer)) }
+fn answer_of_file<F: Files>(alloc: Global, files: &mut F, script: &str) -> Result<Answer, Memory>
+    ensures due { IfOk result (λ answer. (words : List (List ℕ)) (input : List ℕ)
+        → request words ≡ Some (run script.now input)
+        → Due (asked_of words (F.held files.old)
+        (F.fault_count files.old) (F.fault_count files.new) (F.last_failed files.new))
+        (answer_text answer) (answer_status answer)) }
     ensures kept { (name : List ℕ) → F.held files.new name ≡ F.held files.old name }
 {
     match files.read(alloc, script, MOST_BYTES) {
@@ -62,7 +65,8 @@ fn answer_of_file<F: Files>(
 
 /// What a run of this script has to write.
 fn answer_of_script(alloc: Global, bytes: &[u8]) -> Result<Answer, Memory>
-    ensures { IfOk result (λ answer. Answers bytes.now (answer_text answer) (answer_status answer)) }
+    ensures { IfOk result (λ answer.
+        Answers bytes.now (answer_text answer) (answer_status answer)) }
 {
     let program = match parse(alloc, bytes) {
         Ok(program) => program,

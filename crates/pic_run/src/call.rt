@@ -27,31 +27,57 @@ pub fn run_one_call<F: Files, K: Sink>(
     out: &mut K,
 ) -> Status
     // A run: one legal history of the machine, and its report.
-    ensures headline { result ≡ Status.Done → Headline (asked_of (map string_bytes words.now) (F.held files.old) (F.fault_count files.old) (F.fault_count files.new) (F.last_failed files.new)) (K.taken out.old) (K.taken out.new) result }
+    ensures headline { result ≡ Status.Done
+        → Headline (map string_bytes words.now) (F.held files.old) (K.taken out.old) (K.taken out.new) result }
 
     // When each other answer comes, and what the sink took with it.
-    ensures usage { result ≡ Status.Usage → (request (map string_bytes words.now) ≡ None) × Appends (K.taken out.old) (K.taken out.new) (codes "usage\n") }
-    ensures refused { result ≡ Status.Refused → RefusedBy (asked_of (map string_bytes words.now) (F.held files.old) (F.fault_count files.old) (F.fault_count files.new) (F.last_failed files.new)) (K.taken out.old) (K.taken out.new) }
-    ensures read_fault { result ≡ Status.ReadFault → ReadFaultBy (asked_of (map string_bytes words.now) (F.held files.old) (F.fault_count files.old) (F.fault_count files.new) (F.last_failed files.new)) (K.taken out.old) (K.taken out.new) }
-    ensures too_large { result ≡ Status.TooLarge → TooLargeBy (asked_of (map string_bytes words.now) (F.held files.old) (F.fault_count files.old) (F.fault_count files.new) (F.last_failed files.new)) (K.taken out.old) (K.taken out.new) }
-    ensures write_fault { result ≡ Status.WriteFault → Rose (K.fault_count out.old) (K.fault_count out.new) × TookNoMore (asked_of (map string_bytes words.now) (F.held files.old) (F.fault_count files.old) (F.fault_count files.new) (F.last_failed files.new)) (K.taken out.old) (K.taken out.new) }
-    ensures out_of_memory { result ≡ Status.OutOfMemory → TookNoMore (asked_of (map string_bytes words.now) (F.held files.old) (F.fault_count files.old) (F.fault_count files.new) (F.last_failed files.new)) (K.taken out.old) (K.taken out.new) }
+    ensures usage { result ≡ Status.Usage
+        → (request (map string_bytes words.now) ≡ None) × Appends (K.taken out.old) (K.taken out.new) (codes "usage\n") }
+    ensures refused { result ≡ Status.Refused
+        → RefusedBy (map string_bytes words.now) (F.held files.old) (K.taken out.old) (K.taken out.new) }
+    ensures read_fault { result ≡ Status.ReadFault
+        → ReadFaultBy (map string_bytes words.now) (F.fault_count files.old) (F.fault_count files.new)
+        (F.last_failed files.new) (K.taken out.old) (K.taken out.new) }
+    ensures too_large { result ≡ Status.TooLarge
+        → TooLargeBy (map string_bytes words.now) (F.held files.old) (K.taken out.old) (K.taken out.new) }
+    ensures write_fault { result ≡ Status.WriteFault
+        → Rose (K.fault_count out.old) (K.fault_count out.new) }
+    ensures write_fault_front { result ≡ Status.WriteFault
+        → TookNoMore (asked_of (map string_bytes words.now) (F.held files.old)
+        (F.fault_count files.old) (F.fault_count files.new) (F.last_failed files.new))
+        (K.taken out.old) (K.taken out.new) }
+    ensures out_of_memory { result ≡ Status.OutOfMemory
+        → TookNoMore (asked_of (map string_bytes words.now) (F.held files.old)
+        (F.fault_count files.old) (F.fault_count files.new) (F.last_failed files.new))
+        (K.taken out.old) (K.taken out.new) }
 
     // Words that are no request get no other answer, and no file is read for them.
-    ensures no_request { request (map string_bytes words.now) ≡ None → (result ≡ Status.Usage) ⊎ ((result ≡ Status.WriteFault) ⊎ (result ≡ Status.OutOfMemory)) }
+    ensures no_request { request (map string_bytes words.now) ≡ None
+        → (result ≡ Status.Usage) ⊎ ((result ≡ Status.WriteFault) ⊎ (result ≡ Status.OutOfMemory)) }
     ensures untouched { request (map string_bytes words.now) ≡ None → files.new ≡ files.old }
 
     // A script within the size is run, unless a fault occurs in this call.
-    ensures accepted { (script input bytes : List ℕ) → request (map string_bytes words.now) ≡ Some (run script input) → F.held files.old script ≡ holds bytes
-        → (Rose (F.fault_count files.old) (F.fault_count files.new) → ⊥) → length bytes ≤ MOST_BYTES → (Rose (K.fault_count out.old) (K.fault_count out.new) → ⊥)
+    ensures accepted { (script input bytes : List ℕ)
+        → request (map string_bytes words.now) ≡ Some (run script input)
+        → F.held files.old script ≡ holds bytes
+        → (Rose (F.fault_count files.old) (F.fault_count files.new) → ⊥)
+        → length bytes ≤ MOST_BYTES
+        → (Rose (K.fault_count out.old) (K.fault_count out.new) → ⊥)
         → (s : Script) → IsScript bytes s → (result ≡ Status.Done) ⊎ (result ≡ Status.OutOfMemory) }
 
     // Bytes within the size that are no script are refused, and longer ones are too large.
-    ensures outside { (script input bytes : List ℕ) → request (map string_bytes words.now) ≡ Some (run script input) → F.held files.old script ≡ holds bytes
-        → (Rose (F.fault_count files.old) (F.fault_count files.new) → ⊥) → length bytes ≤ MOST_BYTES → ((s : Script) → IsScript bytes s → ⊥)
+    ensures outside { (script input bytes : List ℕ)
+        → request (map string_bytes words.now) ≡ Some (run script input)
+        → F.held files.old script ≡ holds bytes
+        → (Rose (F.fault_count files.old) (F.fault_count files.new) → ⊥)
+        → length bytes ≤ MOST_BYTES
+        → ((s : Script) → IsScript bytes s → ⊥)
         → (result ≡ Status.Refused) ⊎ ((result ≡ Status.WriteFault) ⊎ (result ≡ Status.OutOfMemory)) }
-    ensures longer { (script input bytes : List ℕ) → request (map string_bytes words.now) ≡ Some (run script input) → F.held files.old script ≡ holds bytes
-        → (Rose (F.fault_count files.old) (F.fault_count files.new) → ⊥) → MOST_BYTES < length bytes
+    ensures longer { (script input bytes : List ℕ)
+        → request (map string_bytes words.now) ≡ Some (run script input)
+        → F.held files.old script ≡ holds bytes
+        → (Rose (F.fault_count files.old) (F.fault_count files.new) → ⊥)
+        → MOST_BYTES < length bytes
         → (result ≡ Status.TooLarge) ⊎ ((result ≡ Status.WriteFault) ⊎ (result ≡ Status.OutOfMemory)) }
     ensures kept { (name : List ℕ) → F.held files.new name ≡ F.held files.old name }
 {
@@ -65,7 +91,9 @@ fn call_once<F: Files, K: Sink>(
     files: &mut F,
     out: &mut K,
 ) -> Status
-    ensures serves { Serves (asked_of (map string_bytes words.now) (F.held files.old) (F.fault_count files.old) (F.fault_count files.new) (F.last_failed files.new)) (K.taken out.old) (K.taken out.new) (K.fault_count out.old) (K.fault_count out.new) result }
+    ensures serves { Serves (asked_of (map string_bytes words.now) (F.held files.old)
+        (F.fault_count files.old) (F.fault_count files.new) (F.last_failed files.new))
+        (K.taken out.old) (K.taken out.new) (K.fault_count out.old) (K.fault_count out.new) result }
     ensures untouched { request (map string_bytes words.now) ≡ None → files.new ≡ files.old }
     ensures kept { (name : List ℕ) → F.held files.new name ≡ F.held files.old name }
 {

@@ -32,9 +32,7 @@ impl Fiber {
     pub(crate) fn new() -> Fiber
         ensures { result ≡ context_of (record { text = 0; value = 0; current = 0 }) }
     {
-        Fiber {
-            registers: [0; 16],
-        }
+        Fiber { registers: [0; 16] }
     }
 
     pub(crate) fn value(&self, operand: Operand) -> Value
@@ -92,7 +90,8 @@ impl Fiber {
         requires register { IsRegister register }
         requires comp { comp_number comp < length (world_of runner.old).comps }
         requires main { MainRuns (world_of runner.old) }
-        ensures { OnOk result (Completes runner.old runner.new self.old self.new register comp outcome) }
+        ensures { OnOk result
+            (Completes runner.old runner.new self.old self.new register comp outcome) }
     {
         let comp = number_of(comp);
         let reply = runner.make(MAIN, Call::Complete { comp, outcome })?;
@@ -111,7 +110,8 @@ impl Fiber {
         requires value { IsRegister value }
         requires comp { comp_number comp < length (world_of runner.old).comps }
         requires main { MainRuns (world_of runner.old) }
-        ensures { OnOk result (Did runner.old runner.new (Stmt.Peek state value comp) self.old self.new) }
+        ensures { OnOk result
+            (Did runner.old runner.new (Stmt.Peek state value comp) self.old self.new) }
     {
         let seen = outcome_of(runner.make(MAIN, Call::Peek(number_of(comp)))?);
         self.set(state, state_number(seen));

@@ -30,7 +30,8 @@ impl From<SinkRefusal> for WriteRefusal {
 
 /// Writes a text in one piece, and then what of it was not taken.
 pub(crate) fn put_all<K: Sink>(out: &mut K, text: &[u8]) -> Result<(), WriteRefusal>
-    ensures { Puts (K.taken out.old) (K.taken out.new) (K.fault_count out.old) (K.fault_count out.new) text.now result }
+    ensures { Puts (K.taken out.old) (K.taken out.new)
+        (K.fault_count out.old) (K.fault_count out.new) text.now result }
 {
     let mut rest = text;
     'pieces: while !rest.is_empty() {
@@ -42,7 +43,9 @@ pub(crate) fn put_all<K: Sink>(out: &mut K, text: &[u8]) -> Result<(), WriteRefu
 
 /// Writes texts, one after the other.
 pub(crate) fn put_lines<K: Sink>(out: &mut K, lines: &[String]) -> Result<(), WriteRefusal>
-    ensures { Puts (K.taken out.old) (K.taken out.new) (K.fault_count out.old) (K.fault_count out.new) (flat_map (λ line. line) (map string_bytes lines.now)) result }
+    ensures { Puts (K.taken out.old) (K.taken out.new)
+        (K.fault_count out.old) (K.fault_count out.new)
+        (flat_map (λ line. line) (map string_bytes lines.now)) result }
 {
     for line in lines {
         put_all(out, line.as_bytes())?;

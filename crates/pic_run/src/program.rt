@@ -52,7 +52,10 @@ impl Model for Program {
 
     ghost Value = { Script };
 
-    ghost view = { λ program. record { comps = map string_bytes program.comps.items; stmts = program.stmts.items } };
+    ghost view = { λ program. record {
+      comps = map string_bytes program.comps.items;
+      stmts = program.stmts.items;
+    } };
 }
 
 impl Program {

@@ -58,7 +58,8 @@ impl<T: Drop> From<AllocFailed<T>> for ParseRefusal {
 /// Reads a script. It is refused exactly where the text is the spelling of no script.
 pub(crate) fn parse(alloc: Global, text: &[u8]) -> Result<Program, ParseRefusal>
     ensures read { IfOk result (λ script. IsScript text.now script) }
-    ensures refused { IsErrOf result ParseRefusal.Refused → (script : Script) → IsScript text.now script → ⊥ }
+    ensures refused { IsErrOf result ParseRefusal.Refused
+        → (script : Script) → IsScript text.now script → ⊥ }
 {
     let Ok(text) = str::from_utf8(text) else {
         return Err(ParseRefusal::Refused);
@@ -77,8 +78,11 @@ fn read_comps<'a>(alloc: Global, names: &mut Names, text: &'a str) -> Result<&'a
     requires { names.old ≡ [] }
     ensures free { AreFree reserved names.new }
     ensures few { length names.new ≤ 256 }
-    ensures read { IfOk result (λ rest. text.now ≡ flat_map comp_line names.new ++ (line (codes "main") ++ rest.now)) }
-    ensures refused { IsErrOf result ParseRefusal.Refused → (comps : List (List ℕ)) (rest : List ℕ) → AreFree reserved comps → length comps ≤ 256 → text.now ≢ flat_map comp_line comps ++ (line (codes "main") ++ rest) }
+    ensures read { IfOk result (λ rest.
+        text.now ≡ flat_map comp_line names.new ++ (line (codes "main") ++ rest.now)) }
+    ensures refused { IsErrOf result ParseRefusal.Refused → (comps : List (List ℕ)) (rest : List ℕ)
+        → AreFree reserved comps → length comps ≤ 256
+        → text.now ≢ flat_map comp_line comps ++ (line (codes "main") ++ rest) }
 {
     let mut text = text;
     'comps: while let Some((line, rest)) = cut(text, '\n') {
@@ -106,13 +110,19 @@ fn read_main(alloc: Global, names: &Names, text: &str) -> Result<Vec<Stmt>, Pars
     ensures valid { IfOk result (λ stmts. AllByRecursion (IsStmt names.now) stmts.items) }
     ensures few { IfOk result (λ stmts. length stmts.items ≤ 10000) }
     ensures read { IfOk result (λ stmts. text.now ≡ main_text names.now stmts.items) }
-    ensures refused { IsErrOf result ParseRefusal.Refused → (stmts : List Stmt) → AllByRecursion (IsStmt names.now) stmts → length stmts ≤ 10000 → text.now ≢ main_text names.now stmts }
+    ensures refused { IsErrOf result ParseRefusal.Refused → (stmts : List Stmt)
+        → AllByRecursion (IsStmt names.now) stmts → length stmts ≤ 10000
+        → text.now ≢ main_text names.now stmts }
 {
     let mut stmts = Vec::new(alloc);
     let mut text = text;
     'stmts: while let Some((line, rest)) = cut(text, '\n') {
         if line == "end" {
-            return if rest.is_empty() { Ok(stmts) } else { Err(ParseRefusal::Refused) };
+            return if rest.is_empty() {
+                Ok(stmts)
+            } else {
+                Err(ParseRefusal::Refused)
+            };
         }
         let Some(stmt) = stmt_of(names, line) else {
             return Err(ParseRefusal::Refused);

@@ -17,7 +17,8 @@ use std::alloc::Global;
 
 /// The lines of the report of a run of the program.
 pub(crate) fn report_of(alloc: Global, program: &Program, run: &Runner) -> Result<Lines, Memory>
-    ensures { IfOk result (λ lines. lines ≡ report_lines program.now.comps run.now.history (world_of run.now)) }
+    ensures { IfOk result (λ lines.
+        lines ≡ report_lines program.now.comps run.now.history (world_of run.now)) }
 {
     let mut lines = Lines::new(alloc);
     lines.push_text(alloc, "picos report 1\n")?;
@@ -30,7 +31,8 @@ pub(crate) fn report_of(alloc: Global, program: &Program, run: &Runner) -> Resul
 
 /// Each fiber in order, with what it said.
 fn add_fibers(alloc: Global, lines: &mut Lines, run: &Runner) -> Result<(), Memory>
-    ensures { OnOk result (lines.new ≡ lines.old ++ fibers_lines run.now.history 1 (world_of run.now).fibers) }
+    ensures { OnOk result (lines.new ≡ lines.old
+        ++ fibers_lines run.now.history 1 (world_of run.now).fibers) }
 {
     for (index, state) in run.fibers().iter().enumerate() {
         let number = index + 1;
@@ -64,7 +66,8 @@ fn add_comps(
     program: &Program,
     run: &Runner,
 ) -> Result<(), Memory>
-    ensures { OnOk result (lines.new ≡ lines.old ++ comps_lines program.now.comps run.now.history 0 (world_of run.now).comps) }
+    ensures { OnOk result (lines.new ≡ lines.old
+        ++ comps_lines program.now.comps run.now.history 0 (world_of run.now).comps) }
 {
     let comps = run.comps();
     let found = completers(alloc, run.history(), comps.len())?;
@@ -97,7 +100,8 @@ fn comp_line(
     state: CompState,
     by: Option<FiberNo>,
 ) -> Result<String, Memory>
-    ensures { IfOk result (λ line. string_bytes line ≡ codes "comp " ++ (decimal number ++ (codes " " ++ (name.now ++ (codes " " ++ comp_state_text by state))))) }
+    ensures { IfOk result (λ line. string_bytes line ≡ codes "comp " ++ (decimal number
+        ++ (codes " " ++ (name.now ++ (codes " " ++ comp_state_text by state))))) }
 {
     match state {
         CompState::Running => Ok(format!(in alloc; "comp {number} {name} running\n")?),

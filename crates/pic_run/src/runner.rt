@@ -47,7 +47,8 @@ impl Runner {
     pub(crate) fn make(&mut self, fiber: FiberNo, call: Call) -> Result<Reply, Memory>
         requires { Allowed (world_of self.old) fiber call }
         ensures reply { IfOk result (λ reply. reply ≡ reply_of (world_of self.old) fiber call) }
-        ensures made { IfOk result (λ reply. self.new ≡ record self.old { history = self.old.history ++ event fiber call reply ∷ [] }) }
+        ensures made { IfOk result (λ reply. self.new
+            ≡ record self.old { history = self.old.history ++ event fiber call reply ∷ [] }) }
         ensures legal { OnOk result (IsLegal (origin_of self.new.start) self.new.history) }
         ensures err { OnErr result (self.new ≡ self.old) }
     {

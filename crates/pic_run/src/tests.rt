@@ -1,6 +1,8 @@
 //! Worked scripts with their reports, faults of files and sinks, and words.
+ghost use Rattle.std.specs.Prelude.{◌<◌};
+
 use super::*;
-use pic_io::{MemFiles, MemSink};
+use pic_io::{Files, MemFiles, MemSink};
 use std::alloc::Global;
 use std::test::Fail;
 
@@ -76,5 +78,82 @@ fn words_without_a_request(rt: HostRuntime) -> Result<(), Fail> {
         assert_eq!(rt; out.bytes.as_slice(), b"usage\n".as_slice());
         assert_eq!(rt; files.calls, 0);
     }
+    Ok(())
+}
+
+#[test]
+fn faults_of_the_files(rt: HostRuntime) -> Result<(), Fail> {
+    let alloc = rt.alloc();
+    let words = words(alloc, &["run", "a", "b"])?;
+
+    // No such file.
+    let mut files = MemFiles::new(alloc);
+    let mut out = MemSink::new(alloc);
+    let ended = run_one_call(alloc, words.as_slice(), &mut files, &mut out);
+    assert_eq!(rt; ended, Status::ReadFault);
+    assert_eq!(rt; out.bytes.as_slice(), b"read fault\n".as_slice());
+    assert_eq!(rt; files.failed_name(), Some("a"));
+
+    // A file that can't be read.
+    let mut files = file_a(alloc, FIRST)?;
+    files.failing.push(1)?;
+    let mut out = MemSink::new(alloc);
+    let ended = run_one_call(alloc, words.as_slice(), &mut files, &mut out);
+    assert_eq!(rt; ended, Status::ReadFault);
+    assert_eq!(rt; out.bytes.as_slice(), b"read fault\n".as_slice());
+
+    // A file of one byte more than a script may have.
+    let mut files = MemFiles::new(alloc);
+    let long = vec![in alloc; b'#'; MOST_BYTES + 1]?;
+    files.add("a", long.as_slice())?;
+    let mut out = MemSink::new(alloc);
+    let ended = run_one_call(alloc, words.as_slice(), &mut files, &mut out);
+    assert_eq!(rt; ended, Status::TooLarge);
+    assert_eq!(rt; out.bytes.as_slice(), b"too large\n".as_slice());
+    Ok(())
+}
+
+/// What a sink holds after a run of this script, if it takes so many bytes a call and fails at this
+/// call (none at 0), and the status.
+fn put_to(
+    alloc: Global,
+    script: &[u8],
+    most: usize,
+    failing: u64,
+) -> Result<(Status, Vec<u8>), Fail>
+    requires { 0 < most }
+{
+    let words = words(alloc, &["run", "a", "b"])?;
+    let mut files = file_a(alloc, script)?;
+    let mut calls = Vec::new(alloc);
+    calls.push(failing)?;
+    let mut out = MemSink {
+        bytes: Vec::new(alloc),
+        failing: calls,
+        most,
+        calls: 0,
+        failed: 0,
+    };
+    let ended = run_one_call(alloc, words.as_slice(), &mut files, &mut out);
+    Ok((ended, out.bytes))
+}
+
+#[test]
+fn faults_of_the_sink(rt: HostRuntime) -> Result<(), Fail> {
+    let alloc = rt.alloc();
+    let (ended, taken) = put_to(alloc, FIRST, usize::MAX, 2)?;
+    assert_eq!(rt; ended, Status::WriteFault);
+    assert_eq!(rt; taken.as_slice(), b"picos report 1\n".as_slice());
+    let (ended, taken) = put_to(alloc, b"main\n", usize::MAX, 1)?;
+    assert_eq!(rt; ended, Status::WriteFault);
+    assert_eq!(rt; taken.as_slice(), b"".as_slice());
+
+    // A sink that takes a byte a call, and at last fails within a line.
+    let (ended, taken) = put_to(alloc, FIRST, 1, 0)?;
+    assert_eq!(rt; ended, Status::Done);
+    assert_eq!(rt; taken.as_slice(), FIRST_REPORT);
+    let (ended, taken) = put_to(alloc, FIRST, 1, 6)?;
+    assert_eq!(rt; ended, Status::WriteFault);
+    assert_eq!(rt; taken.as_slice(), b"picos".as_slice());
     Ok(())
 }

@@ -45,7 +45,8 @@ impl Names {
 
     /// The place of a declared name.
     pub(crate) fn place_of(&self, name: &str) -> Option<u32>
-        ensures { MatchOption result (list_any (bytes_eq name.now) self.now ≡ false) (λ place. slice_get self.now place ≡ Some name.now) }
+        ensures { MatchOption result (list_any (bytes_eq name.now) self.now ≡ false)
+            (λ place. slice_get self.now place ≡ Some name.now) }
     {
         self.places.get(name).copied()
     }

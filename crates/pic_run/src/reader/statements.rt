@@ -11,7 +11,11 @@ use crate::program::{CompRef, Operand, Stmt};
 /// The statement that the line spells.
 pub(crate) fn stmt_of(names: &Names, line: &str) -> Option<Stmt>
     requires { AreFree reserved names.now }
-    ensures { MatchOption result ((stmt : Stmt) → IsStmt names.now stmt → line.now ≢ spaced (keyword stmt) (operands names.now stmt)) (λ stmt. IsStmt names.now stmt × (line.now ≡ spaced (keyword stmt) (operands names.now stmt))) }
+    ensures { MatchOption result
+        ((stmt : Stmt) → IsStmt names.now stmt
+        → line.now ≢ spaced (keyword stmt) (operands names.now stmt))
+        (λ stmt. IsStmt names.now stmt
+        × (line.now ≡ spaced (keyword stmt) (operands names.now stmt))) }
 {
     let (word, rest) = cut(line, ' ')?;
     match word {
@@ -64,7 +68,11 @@ fn peek_of(names: &Names, text: &str) -> Option<Stmt>
 /// What stands behind `return` and `cancel`: a register, a computation and an operand.
 fn completion_of(names: &Names, text: &str) -> Option<(u8, CompRef, Operand)>
     requires { AreFree reserved names.now }
-    ensures { MatchOption result ((r : ℕ) (c : CompRef) (v : Operand) → IsRegister r → IsComp names.now c → IsOperand v → text.now ≢ completion_text names.now r c v) (λ x. IsRegister x.0 × IsComp names.now x.1 × IsOperand x.2 × (text.now ≡ completion_text names.now x.0 x.1 x.2)) }
+    ensures { MatchOption result
+        ((r : ℕ) (c : CompRef) (v : Operand) → IsRegister r → IsComp names.now c → IsOperand v
+        → text.now ≢ completion_text names.now r c v)
+        (λ x. IsRegister x.0 × IsComp names.now x.1 × IsOperand x.2
+        × (text.now ≡ completion_text names.now x.0 x.1 x.2)) }
 {
     let (register, text) = register_then(text)?;
     let (comp, text) = comp_then(names, text)?;
@@ -74,7 +82,9 @@ fn completion_of(names: &Names, text: &str) -> Option<(u8, CompRef, Operand)>
 
 /// The register that the text begins with, and what stands behind the blank after it.
 fn register_then(text: &str) -> Option<(u8, &str)>
-    ensures { MatchOption result ((r : ℕ) (rest : List ℕ) → IsRegister r → text.now ≢ spaced (register_text r) rest) (λ x. IsRegister x.0 × (text.now ≡ spaced (register_text x.0) x.1.now)) }
+    ensures { MatchOption result
+        ((r : ℕ) (rest : List ℕ) → IsRegister r → text.now ≢ spaced (register_text r) rest)
+        (λ x. IsRegister x.0 × (text.now ≡ spaced (register_text x.0) x.1.now)) }
 {
     let (word, rest) = cut(text, ' ')?;
     let register = register_of(word)?;
@@ -84,7 +94,10 @@ fn register_then(text: &str) -> Option<(u8, &str)>
 /// The same of a computation.
 fn comp_then<'a>(names: &Names, text: &'a str) -> Option<(CompRef, &'a str)>
     requires { AreFree reserved names.now }
-    ensures { MatchOption result ((c : CompRef) (rest : List ℕ) → IsComp names.now c → text.now ≢ spaced (comp_text names.now c) rest) (λ x. IsComp names.now x.0 × (text.now ≡ spaced (comp_text names.now x.0) x.1.now)) }
+    ensures { MatchOption result
+        ((c : CompRef) (rest : List ℕ) → IsComp names.now c
+        → text.now ≢ spaced (comp_text names.now c) rest)
+        (λ x. IsComp names.now x.0 × (text.now ≡ spaced (comp_text names.now x.0) x.1.now)) }
 {
     let (word, rest) = cut(text, ' ')?;
     let comp = comp_of(names, word)?;
@@ -93,7 +106,9 @@ fn comp_then<'a>(names: &Names, text: &'a str) -> Option<(CompRef, &'a str)>
 
 /// The computation that the word names.
 fn comp_of(names: &Names, word: &str) -> Option<CompRef>
-    ensures { MatchOption result ((c : CompRef) → IsComp names.now c → word.now ≢ comp_text names.now c) (λ c. IsComp names.now c × (word.now ≡ comp_text names.now c)) }
+    ensures { MatchOption result
+        ((c : CompRef) → IsComp names.now c → word.now ≢ comp_text names.now c)
+        (λ c. IsComp names.now c × (word.now ≡ comp_text names.now c)) }
 {
     if word == "root" {
         return Some(CompRef::Root);

@@ -8,14 +8,17 @@ use crate::program::Operand;
 /// What stands before the first such character, and behind it.
 pub(crate) fn cut(text: &str, at: char) -> Option<(&str, &str)>
     requires { at < 128 }
-    ensures { MatchOption result (Lacks at text.now) (λ parts. (text.now ≡ parts.0.now ++ at ∷ parts.1.now) × Lacks at parts.0.now) }
+    ensures { MatchOption result (Lacks at text.now)
+        (λ parts. (text.now ≡ parts.0.now ++ at ∷ parts.1.now) × Lacks at parts.0.now) }
 {
     text.split_once(at)
 }
 
 /// The number that the word spells, without a sign or a leading zero.
 pub(crate) fn number_of(word: &str) -> Option<u32>
-    ensures { MatchOption result ((n : ℕ) → n < 2 ^ 32 → word.now ≢ decimal n) (λ n. (n < 2 ^ 32) × (word.now ≡ decimal n)) }
+    ensures { MatchOption result
+        ((n : ℕ) → n < 2 ^ 32 → word.now ≢ decimal n)
+        (λ n. (n < 2 ^ 32) × (word.now ≡ decimal n)) }
 {
     if has_padding(word.as_bytes()) {
         return None;
@@ -35,15 +38,23 @@ fn has_padding(word: &[u8]) -> bool
 
 /// The register that the word names.
 pub(crate) fn register_of(word: &str) -> Option<u8>
-    ensures { MatchOption result ((r : ℕ) → IsRegister r → word.now ≢ register_text r) (λ r. IsRegister r × (word.now ≡ register_text r)) }
+    ensures { MatchOption result
+        ((r : ℕ) → IsRegister r → word.now ≢ register_text r)
+        (λ r. IsRegister r × (word.now ≡ register_text r)) }
 {
     let number = number_of(word.strip_prefix('r')?)?;
-    if number < 16 { Some(number as u8) } else { None }
+    if number < 16 {
+        Some(number as u8)
+    } else {
+        None
+    }
 }
 
 /// The register or number that the word is.
 pub(crate) fn operand_of(word: &str) -> Option<Operand>
-    ensures { MatchOption result ((v : Operand) → IsOperand v → word.now ≢ operand_text v) (λ v. IsOperand v × (word.now ≡ operand_text v)) }
+    ensures { MatchOption result
+        ((v : Operand) → IsOperand v → word.now ≢ operand_text v)
+        (λ v. IsOperand v × (word.now ≡ operand_text v)) }
 {
     if let Some(register) = register_of(word) {
         return Some(Operand::Reg(register));
@@ -53,7 +64,9 @@ pub(crate) fn operand_of(word: &str) -> Option<Operand>
 
 /// What stands behind the front, where the text begins with it.
 pub(crate) fn after<'a>(text: &'a str, front: &'a str) -> Option<&'a str>
-    ensures { MatchOption result ((rest : List ℕ) → text.now ≢ front.now ++ rest) (λ rest. text.now ≡ front.now ++ rest.now) }
+    ensures { MatchOption result
+        ((rest : List ℕ) → text.now ≢ front.now ++ rest)
+        (λ rest. text.now ≡ front.now ++ rest.now) }
 {
     text.strip_prefix(front)
 }

@@ -14,7 +14,8 @@ pub(crate) fn completers(
     count: usize,
 ) -> Result<Vec<Option<FiberNo>>, Memory>
     ensures count { IfOk result (λ found. length found.items ≡ count) }
-    ensures each { IfOk result (λ found. (c : ℕ) → c < count → slice_index_or found.items c None ≡ completer history.now c) }
+    ensures each { IfOk result (λ found. (c : ℕ) → c < count
+        → slice_index_or found.items c None ≡ completer history.now c) }
 {
     let mut found: Vec<Option<FiberNo>> = vec![in alloc; None; count]?;
     for happened in history {
@@ -36,7 +37,10 @@ fn note(found: &mut Vec<Option<FiberNo>>, place: usize, fiber: FiberNo)
 
 /// The computation that the entry completed.
 fn completed_by(happened: &Happened) -> Option<CompNo>
-    ensures { MatchOption result ((c : ℕ) → completes c happened.now.entry.call happened.now.entry.reply ≡ false) (λ comp. (c : ℕ) → completes c happened.now.entry.call happened.now.entry.reply ≡ (comp == c)) }
+    ensures { MatchOption result
+        ((c : ℕ) → completes c happened.now.entry.call happened.now.entry.reply ≡ false)
+        (λ comp. (c : ℕ)
+        → completes c happened.now.entry.call happened.now.entry.reply ≡ (comp == c)) }
 {
     match (happened.entry.call, happened.entry.reply) {
         (Call::Complete { comp, .. }, Reply::Completed(CompleteReply::Won)) => Some(comp),

@@ -22,11 +22,11 @@ returns-then-len-eq-MOST_COMPS-clause-refused c = λ err.
 
 pub comps-preserved : goal.comps-preserved
 comps-preserved c = (
-      search rules,
-      rw c.in_ok-declare.ensures.ok
+  search rules,
+  rw c.in_ok-declare.ensures.ok
       (comps-push c.args.text.now c.comps.names c.comps.text.now c.comps.invariant.1 c.in-Some.line.now c.in-Some.rest.now c.in-Some.ensures.0 c.in-Some.ensures.1
       c.in-Some-after.name.now c.in-Some-after.ensures (sym c.if-not-is_free.ensures) (omega (arith, c.comps.invariant.1.few, c.len.ensures, c.if-len-eq-MOST_COMPS.false))),
-    )
+)
 
 pub returns-clause-refused : goal.returns-clause-refused
 returns-clause-refused c = λ err. comps_unended c.args.text.now c.comps.names c.comps.text.now c.comps.invariant.1 c.in_default.ensures

@@ -1,5 +1,5 @@
 -- The world of the machine, and the world that stands before the first entry.
-use Rattle.std.specs.Prelude.{◌≡◌, ℕ, ◌≤◌, List, [], ◌∷◌, replicate}
+use Rattle.std.specs.Prelude.{◌≤◌, List, [], ◌∷◌, replicate}
 use Rattle.pic_base.specs.declared.limits.Limits.{Limits}
 use Rattle.pic_machine.specs.declared.state.CompState.{CompState}
 use Rattle.pic_machine.specs.declared.state.CompState.TheVariants.{Running}

@@ -31,9 +31,9 @@ impl Model for World {
     ghost Value = { State };
 
     ghost view = { λ world. record {
-        comps = world.comps.items;
-        fibers = world.fibers.items;
-        limits = world.limits;
+      comps = world.comps.items;
+      fibers = world.fibers.items;
+      limits = world.limits;
     } };
 }
 

@@ -1,8 +1,7 @@
 -- From what a call had to write, and how its writing ended, to each promise of the top call.
-use Rattle.std.proofs.Common.{◌≡◌, ◌≢◌, ℕ, ◌+◌, ◌<◌, ◌≤◌, ◌⊎◌, inl, inr, Option, Some, None, List, [], ◌∷◌, ◌++◌, length, Result, Ok, Err, codes, refl, sym, ap, subst, ◌∙◌, arith}
+use Rattle.std.proofs.Common.{◌≡◌, ◌≢◌, ℕ, ◌<◌, ◌≤◌, ◌⊎◌, inl, inr, Option, Some, None, List, [], length, Result, Ok, Err, codes, refl, sym, ap, subst, ◌∙◌, arith}
 use Rattle.std.specs.List.{flat_map}
 use Rattle.std.specs.Io.KnownBytes.{Appends}
-use Rattle.std.proofs.KnownBytes.{Appends-nil}
 use Rattle.pic_io.specs.Faults.{Rose}
 use Rattle.pic_io.specs.Held.{Held, Gives, IsLongerThan, holds}
 use Rattle.pic_machine.specs.declared.world.Start.{Start}
@@ -16,13 +15,13 @@ use Rattle.pic_run.specs.Script.{Script}
 use Rattle.pic_run.specs.Grammar.{IsScript}
 use Rattle.pic_run.specs.Run.{IsRunOf, origin, start_of}
 use Rattle.pic_run.specs.Report.{report, report_lines}
-use Rattle.pic_run.specs.Request.{Command, run, request}
-use Rattle.pic_run.specs.Status.{MainReturned, IsStatusOf}
+use Rattle.pic_run.specs.Request.{run, request}
+use Rattle.pic_run.specs.Status.{MainReturned}
 use Rattle.pic_run.specs.Output.{AppendsFront, Puts}
 use Rattle.pic_run.specs.Past.{Past, world_of}
 use Rattle.pic_run.specs.Due.{Asked, Answers, refused, ran, Due, usage, read_fault, too_large, answer, Ends, whole, fault, memory, Serves, wrote, gave_up}
 use Rattle.pic_run.specs.Answer.{ended_status}
-use Rattle.pic_run.specs.Headline.{Headline, RefusedBy, ReadFaultBy, TooLargeBy, TookFront, TookNoMore}
+use Rattle.pic_run.specs.Headline.{Headline, RefusedBy, ReadFaultBy, TooLargeBy, TookNoMore}
 
 -- ---- the answer of a script's bytes
 

@@ -1,6 +1,6 @@
 -- Texts of whole lines: lines of one form, and a last line of another. Of two spellings of one text, the
 -- longer begins as the other does.
-use Rattle.std.proofs.Common.{◌≡◌, ◌≢◌, ℕ, suc, ◌+◌, List, [], ◌∷◌, ◌++◌, length, map, refl, sym, ap, subst, ◌∙◌, append_assoc, append-nil}
+use Rattle.std.proofs.Common.{◌≡◌, ◌≢◌, ℕ, List, [], ◌∷◌, ◌++◌, map, refl, sym, ap, subst, ◌∙◌, append_assoc, append-nil}
 use Rattle.std.specs.List.{AllByRecursion, flat_map}
 use Rattle.pic_run.specs.Grammar.{line}
 use Rattle.pic_run.specs.Cuts.{Lacks}

@@ -1,5 +1,5 @@
 -- From the parts of a text to the script that it is, or to none.
-use Rattle.std.proofs.Common.{◌≡◌, ◌≢◌, ℕ, zero, suc, ◌<◌, ◌≤◌, Bool, true, false, nat_lt, IsTrue, lit<, List, [], ◌∷◌, ◌++◌, length, get_or, codes, refl, sym, ap, subst, ◌∙◌, arith}
+use Rattle.std.proofs.Common.{◌≡◌, ℕ, zero, suc, ◌<◌, ◌≤◌, true, nat_lt, IsTrue, lit<, List, [], ◌∷◌, ◌++◌, length, codes, refl, sym, ap, subst, ◌∙◌, arith}
 use Rattle.std.specs.List.{AllByRecursion, flat_map, list_all}
 use Rattle.std.specs.Str.{IsUtf8, IsAscii}
 use Rattle.std.proofs.lemmas.Str.{IsUtf8-from_ascii}
@@ -9,7 +9,7 @@ use Rattle.pic_run.specs.declared.program.Stmt.{Stmt}
 use Rattle.pic_run.specs.Script.{Script}
 use Rattle.pic_run.specs.Names.{is_name, AreFree, reserved}
 use Rattle.pic_run.specs.Grammar.{IsScript, IsStmt, keyword, operands, spaced, line, comp_line, stmt_line, main_text, script_text}
-use Rattle.pic_run.proofs.Spelled.{each-append, each_by_test, free_names, word_each, name_each, spaced_each, stmt_each}
+use Rattle.pic_run.proofs.Spelled.{each-append, each_by_test, free_names, name_each, spaced_each, stmt_each}
 use Rattle.pic_run.proofs.Reading.{NoStmts, comps_unique}
 
 -- ---- a script is text

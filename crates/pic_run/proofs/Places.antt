@@ -1,5 +1,5 @@
 -- Places of names in a list that grows.
-use Rattle.std.proofs.Common.{◌≡◌, ◌≢◌, ℕ, ◌+◌, ◌-◌, ◌<◌, ◌≤◌, Bool, true, false, cond, ◌||◌, ◌&&◌, not, IsTrue, codes, zero, List, [], ◌∷◌, ◌++◌, length, Option, Some, None, MatchOption, slice_get, is_some, String, suc, add-zero, refl, sym, ap, subst, ◌∙◌, arith}
+use Rattle.std.proofs.Common.{◌≡◌, ◌≢◌, ℕ, ◌+◌, ◌-◌, ◌≤◌, Bool, true, false, cond, ◌||◌, not, IsTrue, codes, zero, List, [], ◌∷◌, ◌++◌, length, Option, Some, None, MatchOption, slice_get, is_some, String, suc, add-zero, refl, sym, ap, ◌∙◌, arith}
 use Rattle.std.specs.List.{list_any}
 use Rattle.std.specs.Str.{bytes_eq}
 use Rattle.std.specs.declared.alloc.Global.{Global}

@@ -1,17 +1,11 @@
 -- How far the reader has come, and why it refuses: where a line can't stand, no script has the text.
-use Rattle.std.proofs.Common.{◌≡◌, ◌≢◌, ℕ, suc, ◌+◌, ◌<◌, ◌≤◌, Bool, true, false, ◌==◌, IsTrue, List, [], ◌∷◌, ◌++◌, length, map, get_or, codes, lit<, refl, sym, ap, subst, ◌∙◌, arith, append_assoc, append-nil}
+use Rattle.std.proofs.Common.{◌≡◌, ◌≢◌, ℕ, ◌<◌, ◌≤◌, false, IsTrue, List, [], ◌∷◌, ◌++◌, length, map, get_or, codes, refl, sym, ap, subst, ◌∙◌, arith, append_assoc, append-nil}
 use Rattle.std.specs.List.{AllByRecursion, flat_map}
 use Rattle.std.proofs.lemmas.Bool.{false≢true}
-use Rattle.std.proofs.lemmas.Bool.Decides.{nat_tests}
 use Rattle.std.proofs.lemmas.List.{append_cancel_left, length-append, length-map}
-use Rattle.pic_run.specs.declared.program.Operand.{Operand}
-use Rattle.pic_run.specs.declared.program.Operand.TheVariants.{Reg, Num}
-use Rattle.pic_run.specs.declared.program.CompRef.{CompRef}
-use Rattle.pic_run.specs.declared.program.CompRef.TheVariants.{Root, Named}
 use Rattle.pic_run.specs.declared.program.Stmt.{Stmt}
-use Rattle.pic_run.specs.declared.program.Stmt.TheVariants.{Set, Say, Return, Cancel, Peek}
-use Rattle.pic_run.specs.Names.{is_name, is_name_byte, is_free, AreFree, reserved}
-use Rattle.pic_run.specs.Grammar.{IsRegister, IsOperand, IsComp, IsStmt, register_text, operand_text, comp_text, keyword, operands, spaced, line, comp_line, stmt_line, main_text}
+use Rattle.pic_run.specs.Names.{is_name, is_free, AreFree, reserved}
+use Rattle.pic_run.specs.Grammar.{IsStmt, keyword, operands, spaced, line, comp_line, stmt_line, main_text}
 use Rattle.pic_run.specs.Cuts.{Lacks}
 use Rattle.pic_run.proofs.Cuts.{uncut}
 use Rattle.pic_run.proofs.Spelled.{each-append, free_names, word_each, name_each, spaced_each, stmt_each}

@@ -1,6 +1,5 @@
 -- The lines of a report, gathered in loops: what the rest of a list adds.
-use Rattle.std.proofs.Common.{◌≡◌, ◌≢◌, ℕ, zero, suc, ◌+◌, ◌-◌, ◌<◌, ◌≤◌, ◌==◌, ◌&&◌, not, cond, Bool, true, false, Option, Some, None, MatchOption, List, [], ◌∷◌, ◌++◌, length, drop, map, filter, get_or, slice_set, replicate, codes, refl, sym, ap, subst, ◌∙◌, arith, append_assoc, append-nil}
-use Rattle.std.specs.List.{flat_map}
+use Rattle.std.proofs.Common.{◌≡◌, ◌≢◌, ℕ, zero, suc, ◌+◌, ◌-◌, ◌<◌, ◌≤◌, ◌==◌, cond, Bool, true, false, Option, Some, None, List, [], ◌∷◌, ◌++◌, length, drop, map, get_or, replicate, codes, refl, sym, ap, subst, ◌∙◌, arith, append_assoc, append-nil}
 use Rattle.std.proofs.lemmas.List.{drop_more, drop_all, length-set, length-replicate, get_or-replicate, get_or-set_same, get_or-set_other}
 use Rattle.std.proofs.lemmas.Bool.{false≢true}
 use Rattle.std.proofs.lemmas.Bool.Decides.{nat_tests}
@@ -9,8 +8,7 @@ use Rattle.pic_machine.specs.declared.entry.Call.TheVariants as call
 use Rattle.pic_machine.specs.declared.entry.Happened.{Happened}
 use Rattle.pic_machine.specs.declared.state.FiberState.{FiberState}
 use Rattle.pic_machine.specs.declared.state.CompState.{CompState}
-use Rattle.pic_machine.specs.Log.{is_logged, is_turn, log, visible}
-use Rattle.pic_run.specs.Report.{comp_name, said_line, said_lines, says_lines, fiber_line, fiber_lines, fibers_lines, comp_line, comps_lines, completes, completer}
+use Rattle.pic_run.specs.Report.{comp_name, said_line, says_lines, fiber_line, fiber_lines, fibers_lines, comp_line, comps_lines, completes, completer}
 use Rattle.pic_run.specs.Lines.{said, said_by, first_of, noted, noted_if}
 
 -- ---- what a fiber said

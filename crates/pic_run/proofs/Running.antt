@@ -1,6 +1,5 @@
 -- One entry of main after another: what each statement adds to the history.
-use Rattle.std.proofs.Common.{◌≡◌, ◌≢◌, ℕ, ◌+◌, ◌<◌, Bool, true, false, List, [], ◌∷◌, ◌++◌, length, Option, Some, None, slice_get, slice_set, refl, sym, ap, subst, ◌∙◌, arith, append_assoc, append-nil}
-use Rattle.std.specs.List.{AllByRecursion}
+use Rattle.std.proofs.Common.{◌≡◌, ℕ, false, [], ◌∷◌, ◌++◌, length, Option, Some, None, slice_get, refl, sym, ap, subst, ◌∙◌, append-nil}
 use Rattle.std.proofs.lemmas.List.{length-set}
 use Rattle.pic_base.specs.declared.outcome.Outcome.{Outcome}
 use Rattle.pic_base.specs.declared.outcome.Outcome.TheVariants.{Returned, Cancelled}
@@ -15,15 +14,15 @@ use Rattle.pic_machine.specs.declared.state.CompState.{CompState}
 use Rattle.pic_machine.specs.declared.state.CompState.TheVariants.{Running, Done}
 use Rattle.pic_machine.specs.State.{State}
 use Rattle.pic_machine.specs.Step.{Allowed, after, reply_of, completed, peeked, with_outcome}
-use Rattle.pic_machine.specs.History.{event, origin_of, world, Follows, IsLegal}
+use Rattle.pic_machine.specs.History.{event, origin_of}
 use Rattle.pic_machine.specs.Log.{is_turn}
-use Rattle.pic_machine.specs.Order.{IsOwn, stops}
+use Rattle.pic_machine.specs.Order.{stops}
 use Rattle.pic_machine.proofs.Histories.{IsLegal-push, world-push}
 use Rattle.pic_run.specs.declared.program.Operand.{Operand}
 use Rattle.pic_run.specs.declared.program.CompRef.{CompRef}
 use Rattle.pic_run.specs.declared.program.Stmt.{Stmt}
 use Rattle.pic_run.specs.declared.program.Stmt.TheVariants.{Set, Say, Return, Cancel, Peek}
-use Rattle.pic_run.specs.Meaning.{Context, Does, set_next, say_next, return_next, cancel_next, peek_next, next, comp_number, value_of, with_register, won, state_number, outcome_number}
+use Rattle.pic_run.specs.Meaning.{Context, Does, set_next, say_next, return_next, cancel_next, peek_next, next, comp_number, value_of, with_register, state_number, outcome_number}
 use Rattle.pic_run.specs.Past.{Past, world_of, IsKept, Adds, Completes, Did, won_of, seen_of}
 
 pub pair : {A B : Type 0} {a a' : A} {b b' : B} → a ≡ a' → b ≡ b' → ◌≡◌ {A = A × B} (a, b) (a', b')

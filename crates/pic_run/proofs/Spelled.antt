@@ -1,8 +1,8 @@
 -- What holds of each byte of a script's words: it is printed, from `0` on. So it is no blank, ends no line
 -- and is ASCII.
-use Rattle.std.proofs.Common.{◌≡◌, ◌≢◌, ℕ, zero, suc, ◌+◌, ◌<◌, ◌≤◌, ◌^◌, Bool, true, false, ◌==◌, ◌&&◌, ◌||◌, not, nat_le, IsTrue, List, [], ◌∷◌, ◌++◌, length, get_or, codes, decimal, refl, sym, ap, subst, ◌∙◌, arith}
+use Rattle.std.proofs.Common.{◌≡◌, ℕ, zero, suc, ◌<◌, ◌≤◌, ◌^◌, Bool, true, ◌&&◌, not, nat_le, IsTrue, List, [], ◌∷◌, ◌++◌, length, get_or, codes, decimal, refl, arith}
 use Rattle.std.specs.Int.{IsInRange}
-use Rattle.std.specs.List.{AllByRecursion, list_all, flat_map}
+use Rattle.std.specs.List.{AllByRecursion, list_all}
 use Rattle.std.specs.Str.Parse.{digits_value}
 use Rattle.std.proofs.lemmas.Bool.Decides.{nat_tests}
 use Rattle.std.proofs.lemmas.Str.Parse.{IsNumeralModel, numerals_by_value, tells_by_index}
@@ -13,7 +13,7 @@ use Rattle.pic_run.specs.declared.program.CompRef.{CompRef}
 use Rattle.pic_run.specs.declared.program.CompRef.TheVariants.{Root, Named}
 use Rattle.pic_run.specs.declared.program.Stmt.{Stmt}
 use Rattle.pic_run.specs.declared.program.Stmt.TheVariants.{Set, Say, Return, Cancel, Peek}
-use Rattle.pic_run.specs.Names.{is_lower, is_digit, is_name, is_name_byte, starts_lower, is_register_like, is_free, AreFree, reserved}
+use Rattle.pic_run.specs.Names.{is_name, is_name_byte, starts_lower, is_register_like, AreFree, reserved}
 use Rattle.pic_run.specs.Grammar.{IsRegister, IsOperand, IsComp, IsStmt, register_text, operand_text, comp_text, completion_text, keyword, operands, spaced}
 use Rattle.pic_run.proofs.Bools.{and_left, and_right}
 

@@ -1,6 +1,6 @@
 -- What the reader of statements finds: where one part isn't spelled, no statement is.
-use Rattle.std.proofs.Common.{◌≡◌, ◌≢◌, ℕ, zero, suc, ◌<◌, ◌≤◌, Bool, true, false, IsTrue, List, [], ◌∷◌, ◌++◌, length, get_or, slice_get, codes, Option, Some, None, MatchOption, lit<, refl, sym, ap, subst, ◌∙◌, arith}
-use Rattle.std.specs.List.{AllByRecursion, list_any}
+use Rattle.std.proofs.Common.{◌≡◌, ◌≢◌, ℕ, ◌<◌, ◌≤◌, false, List, [], ◌∷◌, ◌++◌, length, get_or, slice_get, codes, Option, Some, None, MatchOption, refl, sym, ap, subst, ◌∙◌, arith}
+use Rattle.std.specs.List.{list_any}
 use Rattle.std.specs.Str.{bytes_eq}
 use Rattle.std.proofs.lemmas.Bool.{false≢true}
 use Rattle.std.proofs.lemmas.Option.{slice_get-get_or, slice_get_within, get_or_from_slice_get}
@@ -9,8 +9,8 @@ use Rattle.pic_run.specs.declared.program.CompRef.{CompRef}
 use Rattle.pic_run.specs.declared.program.CompRef.TheVariants.{Root, Named}
 use Rattle.pic_run.specs.declared.program.Stmt.{Stmt}
 use Rattle.pic_run.specs.declared.program.Stmt.TheVariants.{Set, Say, Return, Cancel, Peek}
-use Rattle.pic_run.specs.Names.{is_name, is_name_byte, AreFree, reserved}
-use Rattle.pic_run.specs.Grammar.{IsRegister, IsOperand, IsComp, IsStmt, register_text, operand_text, comp_text, completion_text, keyword, operands, spaced}
+use Rattle.pic_run.specs.Names.{AreFree, reserved}
+use Rattle.pic_run.specs.Grammar.{IsRegister, IsOperand, IsComp, IsStmt, register_text, operand_text, comp_text, keyword, operands, spaced}
 use Rattle.pic_run.specs.Cuts.{Lacks, ReadsForm}
 use Rattle.pic_run.proofs.Cuts.{cut_unique}
 use Rattle.pic_run.proofs.Spelled.{register_each, comp_each, keyword_each}

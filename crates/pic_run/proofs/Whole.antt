@@ -1,9 +1,8 @@
 -- Main's whole turn: from its beginning, over its statements, to its end.
-use Rattle.std.proofs.Common.{◌≡◌, ◌≢◌, ℕ, zero, suc, ◌+◌, ◌-◌, ◌<◌, ◌≤◌, ◌^◌, ◌==◌, ◌&&◌, not, cond, Bool, true, false, List, [], ◌∷◌, ◌++◌, length, drop, filter, get_or, Option, Some, None, slice_get, slice_set, refl, sym, ap, subst, ◌∙◌, arith, append_assoc, append-nil}
+use Rattle.std.proofs.Common.{◌≡◌, ◌≢◌, ℕ, zero, suc, ◌+◌, ◌<◌, ◌==◌, cond, Bool, true, false, List, [], ◌∷◌, ◌++◌, length, drop, get_or, Some, None, slice_get, slice_set, refl, sym, ap, subst, ◌∙◌, arith, append_assoc, append-nil}
 use Rattle.std.specs.Prelude.{All}
 use Rattle.std.specs.List.{AllByRecursion}
 use Rattle.std.proofs.lemmas.List.{drop_more, drop_all, length-replicate}
-use Rattle.std.proofs.lemmas.Bool.{false≢true}
 use Rattle.std.proofs.lemmas.Bool.Decides.{nat_tests}
 use Rattle.pic_base.specs.declared.outcome.Outcome.TheVariants.{Returned}
 use Rattle.pic_machine.specs.declared.birth.Birth.{Birth}
@@ -16,11 +15,9 @@ use Rattle.pic_machine.specs.declared.state.FiberState.TheVariants.{Live, Ended}
 use Rattle.pic_machine.specs.declared.state.CompState.TheVariants.{Running}
 use Rattle.pic_machine.specs.declared.world.Start.{Start}
 use Rattle.pic_machine.specs.State.{State}
-use Rattle.pic_machine.specs.Step.{after, reply_of}
-use Rattle.pic_machine.specs.History.{event, origin_of, world, birth_in, IsLegal}
-use Rattle.pic_machine.specs.Log.{is_logged, is_turn, log}
-use Rattle.pic_machine.specs.Order.{IsOwn, IsTurn, stops, InFifo, begin, turn, IsInFifoOrder}
-use Rattle.pic_machine.specs.Final.{IsFinal}
+use Rattle.pic_machine.specs.History.{event, origin_of, world, IsLegal}
+use Rattle.pic_machine.specs.Log.{is_logged, log}
+use Rattle.pic_machine.specs.Order.{IsOwn, stops, InFifo, begin, turn}
 use Rattle.pic_machine.proofs.Histories.{world-push}
 use Rattle.pic_run.specs.declared.program.Operand.TheVariants.{Reg}
 use Rattle.pic_run.specs.declared.program.CompRef.{CompRef}
@@ -29,7 +26,7 @@ use Rattle.pic_run.specs.declared.program.Stmt.{Stmt}
 use Rattle.pic_run.specs.declared.program.Stmt.TheVariants.{Set, Say, Return, Cancel, Peek}
 use Rattle.pic_run.specs.Script.{Script}
 use Rattle.pic_run.specs.Grammar.{IsComp, IsStmt}
-use Rattle.pic_run.specs.Meaning.{Context, Exit, next, cut, Runs, done, more, value_of, context_of, comp_number, FollowsText, ended}
+use Rattle.pic_run.specs.Meaning.{Context, Exit, next, Runs, done, more, value_of, context_of, comp_number, FollowsText, ended}
 use Rattle.pic_run.specs.Run.{start_of, origin, IsRunOf}
 use Rattle.pic_run.specs.Status.{MainReturned}
 use Rattle.pic_run.specs.Past.{Past, world_of, Did, StmtFits}

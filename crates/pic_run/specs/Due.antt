@@ -12,7 +12,7 @@ use Rattle.pic_run.specs.Script.{Script}
 use Rattle.pic_run.specs.Grammar.{IsScript}
 use Rattle.pic_run.specs.Run.{IsRunOf, origin}
 use Rattle.pic_run.specs.Report.{report}
-use Rattle.pic_run.specs.Request.{Command, run, request}
+use Rattle.pic_run.specs.Request.{run, request}
 use Rattle.pic_run.specs.Status.{IsStatusOf}
 use Rattle.pic_run.specs.Output.{AppendsFront}
 

@@ -1,6 +1,6 @@
 -- The first script form: which bytes are a script. Each script has one spelling, and the bytes are in
 -- the form where they are the spelling of some script.
-use Rattle.std.specs.Prelude.{◌≡◌, ℕ, ◌+◌, ◌^◌, ◌<◌, ◌≤◌, List, [], ◌∷◌, ◌++◌, length, codes, decimal, slice_index_or, ⊤}
+use Rattle.std.specs.Prelude.{◌≡◌, ℕ, ◌^◌, ◌<◌, ◌≤◌, List, [], ◌∷◌, ◌++◌, length, codes, decimal, slice_index_or, ⊤}
 use Rattle.std.specs.List.{flat_map, AllByRecursion}
 use Rattle.pic_run.specs.declared.program.Operand.{Operand}
 use Rattle.pic_run.specs.declared.program.Operand.TheVariants.{Reg, Num}

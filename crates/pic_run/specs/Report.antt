@@ -2,12 +2,11 @@
 use Rattle.std.proofs.Common.{zero, suc}
 use Rattle.std.specs.Prelude.{ℕ, ◌+◌, ◌==◌, if◌then◌else◌, Bool, false, Option, Some, None, unwrap_or, List, [], ◌∷◌, ◌++◌, codes, decimal, slice_index_or, slice_get}
 use Rattle.std.specs.List.{flat_map}
-use Rattle.pic_base.specs.declared.outcome.Outcome.TheVariants.{Returned, Cancelled}
+use Rattle.pic_base.specs.declared.outcome.Outcome.TheVariants.{Cancelled}
 use Rattle.pic_base.specs.Outcome.{outcome_text}
 use Rattle.pic_machine.specs.declared.entry.Call.{Call}
 use Rattle.pic_machine.specs.declared.entry.Call.TheVariants.{Say, Complete}
 use Rattle.pic_machine.specs.declared.entry.CompleteReply.TheVariants.{Won}
-use Rattle.pic_machine.specs.declared.entry.Entry.{Entry}
 use Rattle.pic_machine.specs.declared.entry.Happened.{Happened}
 use Rattle.pic_machine.specs.declared.entry.Reply.{Reply}
 use Rattle.pic_machine.specs.declared.entry.Reply.TheVariants.{Completed}

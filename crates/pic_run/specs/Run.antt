@@ -1,6 +1,5 @@
 -- The runs of a script: which histories of the machine are one.
 use Rattle.std.specs.Prelude.{◌≡◌, ℕ, ◌+◌, Some, List, length}
-use Rattle.pic_base.specs.declared.outcome.Outcome.TheVariants.{Returned}
 use Rattle.pic_machine.specs.declared.birth.Birth.{Birth}
 use Rattle.pic_machine.specs.declared.entry.Happened.{Happened}
 use Rattle.pic_machine.specs.declared.world.Start.{Start}

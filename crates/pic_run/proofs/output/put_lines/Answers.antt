@@ -1,9 +1,8 @@
-use Rattle.std.proofs.Common.{List, ℕ, ◌+◌, ◌++◌, map, drop, sym, subst, ◌∙◌, ap, arith}
+use Rattle.std.proofs.Common.{List, ℕ, ◌+◌, ◌++◌, map, drop, sym, ◌∙◌, ap, arith}
 use Rattle.std.specs.List.{flat_map}
 use Rattle.std.specs.String.{string_bytes}
 use Rattle.std.proofs.lemmas.Result.{err_from_is_err_and}
-use Rattle.pic_run.specs.Output.{Puts}
-use Rattle.pic_run.proofs.Writing.{IsPut, puts_then, puts_on, texts_from}
+use Rattle.pic_run.proofs.Writing.{puts_then, puts_on, texts_from}
 use Rattle.pic_run.proofs.output.put_lines.Goals as goal
 
 pub returns-in_err-put_all : goal.returns-in_err-put_all

@@ -1,8 +1,6 @@
-use Rattle.std.proofs.Common.{codes, sym, ◌∙◌, subst, not, true, arith, length, List, ℕ, rules}
-use Rattle.std.proofs.lemmas.Bool.Decides.{nat_tests}
-use Rattle.pic_run.proofs.Bools.{not_true, not_false}
+use Rattle.std.proofs.Common.{codes, sym, ◌∙◌, arith, rules}
 use Rattle.pic_run.proofs.Places.{differ}
-use Rattle.pic_run.proofs.Reading.{CompsRead, comps_unended, comps_unspelled, comps_taken, comps_full, comps-push}
+use Rattle.pic_run.proofs.Reading.{comps_unended, comps_unspelled, comps_taken, comps_full, comps-push}
 use Rattle.pic_run.proofs.reader.read_comps.Goals as goal
 
 pub returns-in_default-after-clause-refused : goal.returns-in_default-after-clause-refused

@@ -1,4 +1,4 @@
-use Rattle.std.proofs.Common.{◌≡◌, codes, sym, ◌∙◌, arith, [], length, ap}
+use Rattle.std.proofs.Common.{◌≡◌, codes, sym, ◌∙◌, arith, length, ap}
 use Rattle.std.proofs.lemmas.Bool.Decides.{nat_tests}
 use Rattle.std.proofs.lemmas.List.{nil_from_length}
 use Rattle.pic_run.proofs.Places.{differ, bytes_eq-true}

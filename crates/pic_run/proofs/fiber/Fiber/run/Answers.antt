@@ -1,8 +1,6 @@
-use Rattle.std.proofs.Common.{ap, subst, sym}
+use Rattle.std.proofs.Common.{ap}
 use Rattle.std.proofs.lemmas.Result.{on_ok_weaker}
 use Rattle.pic_base.specs.declared.outcome.Outcome.TheVariants.{Returned, Cancelled}
-use Rattle.pic_run.specs.declared.program.Stmt.{Stmt}
-use Rattle.pic_run.specs.Past.{Did}
 use Rattle.pic_run.proofs.Running.{did_set, did_say, did_return, did_cancel}
 use Rattle.pic_run.proofs.fiber.Fiber.run.Goals as goal
 

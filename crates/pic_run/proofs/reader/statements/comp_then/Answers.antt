@@ -1,4 +1,4 @@
-use Rattle.pic_run.specs.Grammar.{register_text, operand_text, comp_text, spaced}
+use Rattle.pic_run.specs.Grammar.{comp_text}
 use Rattle.pic_run.proofs.Cuts.{uncut}
 use Rattle.pic_run.proofs.Statements.{other_word, comp_whole}
 use Rattle.pic_run.proofs.reader.statements.comp_then.Goals as goal

@@ -1,4 +1,4 @@
-use Rattle.pic_run.specs.Grammar.{register_text, operand_text, comp_text, spaced}
+use Rattle.pic_run.specs.Grammar.{register_text, comp_text}
 use Rattle.pic_run.proofs.Statements.{peek_unread, other_rest, register_whole}
 use Rattle.pic_run.proofs.reader.statements.peek_of.Goals as goal
 

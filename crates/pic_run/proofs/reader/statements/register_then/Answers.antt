@@ -1,4 +1,4 @@
-use Rattle.pic_run.specs.Grammar.{register_text, operand_text, comp_text, spaced}
+use Rattle.pic_run.specs.Grammar.{register_text}
 use Rattle.pic_run.proofs.Cuts.{uncut}
 use Rattle.pic_run.proofs.Statements.{other_word, register_whole}
 use Rattle.pic_run.proofs.reader.statements.register_then.Goals as goal

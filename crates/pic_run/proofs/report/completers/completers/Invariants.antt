@@ -1,4 +1,3 @@
-use Rattle.std.proofs.Common.{length}
 use Rattle.pic_run.proofs.Reports.{Found}
 use Rattle.pic_run.proofs.report.completers.completers.Given as goal
 

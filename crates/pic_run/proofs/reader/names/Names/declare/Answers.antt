@@ -1,5 +1,4 @@
-use Rattle.std.proofs.Common.{◌≡◌, ◌++◌, ◌∷◌, [], length, map, String, refl, ap, sym, arith, append-nil}
-use Rattle.std.specs.declared.alloc.Global.{Global}
+use Rattle.std.proofs.Common.{◌≡◌, ◌∷◌, [], length, map, refl, ap, arith}
 use Rattle.std.specs.String.{string_bytes}
 use Rattle.std.proofs.lemmas.List.{map-append, length-map}
 use Rattle.pic_run.proofs.Places.{places-push, free_is_new}

@@ -63,25 +63,34 @@ outcome_number (Some (Cancelled k)) = k
 -- fiber f, at this context, may leave this segment of its log by the statement, which ends so, with
 -- this context after it. A reply is whatever the machine answers.
 pub data Does (f : ℕ) : Stmt → Context → List Happened → Exit → Context → Type 0 where
-  set_next : {r : ℕ} {v : Operand} {c : Context} → Does f (stmt.Set r v) c [] next (with_register c r (value_of c v))
+  set_next : {r : ℕ} {v : Operand} {c : Context}
+      → Does f (stmt.Set r v) c [] next (with_register c r (value_of c v))
   say_cut : {v : Operand} {c : Context} → Does f (stmt.Say v) c [] cut c
-  say_next : {v : Operand} {c : Context} → Does f (stmt.Say v) c (event f (call.Say (value_of c v)) Plain ∷ []) next c
+  say_next : {v : Operand} {c : Context}
+      → Does f (stmt.Say v) c (event f (call.Say (value_of c v)) Plain ∷ []) next c
   return_cut : {r : ℕ} {a : CompRef} {v : Operand} {c : Context} → Does f (stmt.Return r a v) c [] cut c
   return_next : {r : ℕ} {a : CompRef} {v : Operand} {c : Context} (reply : CompleteReply)
-      → Does f (stmt.Return r a v) c (event f (call.Complete (comp_number a) (Returned (value_of c v))) (Completed reply) ∷ []) next (with_register c r (won reply))
+      → Does f (stmt.Return r a v) c
+      (event f (call.Complete (comp_number a) (Returned (value_of c v))) (Completed reply) ∷ [])
+      next (with_register c r (won reply))
   cancel_cut : {r : ℕ} {a : CompRef} {v : Operand} {c : Context} → Does f (stmt.Cancel r a v) c [] cut c
   cancel_next : {r : ℕ} {a : CompRef} {v : Operand} {c : Context} (reply : CompleteReply)
-      → Does f (stmt.Cancel r a v) c (event f (call.Complete (comp_number a) (Cancelled (value_of c v))) (Completed reply) ∷ []) next (with_register c r (won reply))
+      → Does f (stmt.Cancel r a v) c
+      (event f (call.Complete (comp_number a) (Cancelled (value_of c v))) (Completed reply) ∷ [])
+      next (with_register c r (won reply))
   peek_cut : {r q : ℕ} {a : CompRef} {c : Context} → Does f (stmt.Peek r q a) c [] cut c
   peek_next : {r q : ℕ} {a : CompRef} {c : Context} (seen : Option Outcome)
-      → Does f (stmt.Peek r q a) c (event f (call.Peek (comp_number a)) (Peeked seen) ∷ []) next (with_register (with_register c r (state_number seen)) q (outcome_number seen))
+      → Does f (stmt.Peek r q a) c (event f (call.Peek (comp_number a)) (Peeked seen) ∷ [])
+      next (with_register (with_register c r (state_number seen)) q (outcome_number seen))
 
 -- the same of a list of statements: one after the other, up to the first that doesn't go on
 pub data Runs (f : ℕ) : List Stmt → Context → List Happened → Exit → Context → Type 0 where
   done : {c : Context} → Runs f [] c [] next c
   waits : {ss : List Stmt} {c : Context} → Runs f ss c [] cut c
-  more : {s : Stmt} {ss : List Stmt} {c d e : Context} {xs ys : List Happened} {x : Exit} → Does f s c xs next d → Runs f ss d ys x e → Runs f (s ∷ ss) c (xs ++ ys) x e
-  leaves : {s : Stmt} {ss : List Stmt} {c d : Context} {xs : List Happened} {x : Exit} → Does f s c xs x d → x ≢ next → Runs f (s ∷ ss) c xs x d
+  more : {s : Stmt} {ss : List Stmt} {c d e : Context} {xs ys : List Happened} {x : Exit}
+      → Does f s c xs next d → Runs f ss d ys x e → Runs f (s ∷ ss) c (xs ++ ys) x e
+  leaves : {s : Stmt} {ss : List Stmt} {c d : Context} {xs : List Happened} {x : Exit}
+      → Does f s c xs x d → x ≢ next → Runs f (s ∷ ss) c xs x d
 
 -- ---- a fiber's text
 
@@ -97,7 +106,10 @@ context_of birth = record { registers = birth.value ∷ replicate 15 0 }
 -- the log of fiber f follows its text from its birth: it stops somewhere within it, or is the whole
 -- text's, and then maybe the fiber's end, which returns r0
 pub data FollowsText (script : Script) (f : ℕ) (birth : Birth) : List Happened → Type 0 where
-  under_way : {log : List Happened} {d : Context} → Runs f (text_of script birth.text) (context_of birth) log cut d → FollowsText script f birth log
-  at_end : {log : List Happened} {d : Context} → Runs f (text_of script birth.text) (context_of birth) log next d → FollowsText script f birth log
-  ended : {log : List Happened} {d : Context} → Runs f (text_of script birth.text) (context_of birth) log next d
+  under_way : {log : List Happened} {d : Context}
+      → Runs f (text_of script birth.text) (context_of birth) log cut d → FollowsText script f birth log
+  at_end : {log : List Happened} {d : Context}
+      → Runs f (text_of script birth.text) (context_of birth) log next d → FollowsText script f birth log
+  ended : {log : List Happened} {d : Context}
+      → Runs f (text_of script birth.text) (context_of birth) log next d
       → FollowsText script f birth (log ++ event f (call.End (Returned (value_of d (Reg 0)))) Plain ∷ [])

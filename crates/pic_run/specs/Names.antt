@@ -29,7 +29,8 @@ is_register_like (b ∷ bs) = ((b == 114) || (b == 112)) && is_digits bs
 
 -- a lower-case letter, and at most 23 further letters, digits or `_`
 abbrev pub is_name : List ℕ → Bool
-is_name word = starts_lower word && list_all is_name_byte word && nat_le (length word) 24 && not (is_register_like word)
+is_name word = starts_lower word && list_all is_name_byte word && nat_le (length word) 24
+    && not (is_register_like word)
 
 -- a name that is not among those that are taken
 abbrev pub is_free : List (List ℕ) → List ℕ → Bool

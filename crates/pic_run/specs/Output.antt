@@ -13,7 +13,10 @@ pub record AppendsFront (before now : Option (List ℕ)) (text : List ℕ) : Typ
   pub taken : Appends before now front
 
 -- all of the text was taken; or a front of it, and the sink's faults rose or memory was wanted
-abbrev pub Puts : Option (List ℕ) → Option (List ℕ) → ℕ → ℕ → List ℕ → Result (Unit {0}) WriteRefusal → Type 0
+abbrev pub Puts : Option (List ℕ) → Option (List ℕ) → ℕ → ℕ → List ℕ → Result (Unit {0}) WriteRefusal
+    → Type 0
 Puts before now faults faults_now text (Ok u) = Appends before now text × (faults ≤ faults_now)
-Puts before now faults faults_now text (Err WriteFault) = AppendsFront before now text × Rose faults faults_now
-Puts before now faults faults_now text (Err Memory) = AppendsFront before now text × (faults ≤ faults_now)
+Puts before now faults faults_now text (Err WriteFault) =
+    AppendsFront before now text × Rose faults faults_now
+Puts before now faults faults_now text (Err Memory) =
+    AppendsFront before now text × (faults ≤ faults_now)

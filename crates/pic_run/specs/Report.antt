@@ -29,7 +29,8 @@ fiber_state_text (Ended outcome) = outcome_text outcome
 
 -- the fiber's number, the name of its text (so far main's) and how it stands
 abbrev pub fiber_line : ℕ → FiberState → List ℕ
-fiber_line f state = codes "fiber " ++ (decimal f ++ (codes " main " ++ (fiber_state_text state ++ codes "\n")))
+fiber_line f state =
+    codes "fiber " ++ (decimal f ++ (codes " main " ++ (fiber_state_text state ++ codes "\n")))
 
 abbrev pub said_line : ℕ → List ℕ
 said_line value = codes "  say " ++ (decimal value ++ codes "\n")
@@ -61,7 +62,8 @@ completes c _ _ = false
 -- the fiber whose call completed the computation
 abbrev pub completer : List Happened → ℕ → Option ℕ
 completer [] c = None
-completer (h ∷ hs) c = if completes c h.entry.call h.entry.reply then Some h.entry.fiber else completer hs c
+completer (h ∷ hs) c =
+    if completes c h.entry.call h.entry.reply then Some h.entry.fiber else completer hs c
 
 -- the root, or the name that the script declares
 abbrev pub comp_name : List (List ℕ) → ℕ → List ℕ
@@ -71,10 +73,12 @@ comp_name names (suc k) = slice_index_or names k (codes "-")
 -- how the computation stands, and which fiber completed it, to the line's end
 abbrev pub comp_state_text : Option ℕ → CompState → List ℕ
 comp_state_text by Running = codes "running\n"
-comp_state_text by (Done outcome) = outcome_text outcome ++ (codes " by " ++ (decimal (unwrap_or by 0) ++ codes "\n"))
+comp_state_text by (Done outcome) =
+    outcome_text outcome ++ (codes " by " ++ (decimal (unwrap_or by 0) ++ codes "\n"))
 
 abbrev pub comp_line : List (List ℕ) → List Happened → ℕ → CompState → List ℕ
-comp_line names hs c state = codes "comp " ++ (decimal c ++ (codes " " ++ (comp_name names c ++ (codes " " ++ comp_state_text (completer hs c) state))))
+comp_line names hs c state = codes "comp " ++ (decimal c ++ (codes " "
+    ++ (comp_name names c ++ (codes " " ++ comp_state_text (completer hs c) state))))
 
 -- the lines of the computations from number c on
 abbrev pub comps_lines : List (List ℕ) → List Happened → ℕ → List CompState → List (List ℕ)
@@ -91,7 +95,9 @@ run_line _ = codes "run done\n"
 -- the lines of a report of this world, to which this history led
 abbrev pub report_lines : List (List ℕ) → List Happened → State → List (List ℕ)
 report_lines names hs w = (codes "picos report 1\n" ∷ [])
-    ++ (fibers_lines hs 1 w.fibers ++ (comps_lines names hs 0 w.comps ++ (codes "clock 0\n" ∷ (run_line (slice_get w.fibers 0) ∷ []))))
+    ++ (fibers_lines hs 1 w.fibers
+    ++ (comps_lines names hs 0 w.comps
+    ++ (codes "clock 0\n" ∷ (run_line (slice_get w.fibers 0) ∷ []))))
 
 -- the report of a history of the script
 abbrev pub report : Script → List Happened → List ℕ

@@ -24,5 +24,7 @@ is_option (b ∷ bs) = b == 45
 
 -- the three words `run`, a name and a name ask for a run, and no other words ask for anything
 abbrev pub request : List (List ℕ) → Option Command
-request (word ∷ (script ∷ (input ∷ []))) = if bytes_eq word (codes "run") && not (is_option script) && not (is_option input) then Some (run script input) else None
+request (word ∷ (script ∷ (input ∷ []))) =
+    if bytes_eq word (codes "run") && not (is_option script) && not (is_option input)
+    then Some (run script input) else None
 request _ = None

@@ -22,6 +22,7 @@ origin script = origin_of (start_of script)
 -- its text from its birth, which ends in a final world, and whose turns stand in the FIFO order
 pub record IsRunOf (script : Script) (history : List Happened) : Type 0 where
   pub legal : IsLegal (origin script) history
-  pub follows : (f : ℕ) (birth : Birth) → birth_in (origin script) history f ≡ Some birth → FollowsText script f birth (log history f)
+  pub follows : (f : ℕ) (birth : Birth) → birth_in (origin script) history f ≡ Some birth
+      → FollowsText script f birth (log history f)
   pub final : IsFinal (world (origin script) history)
   pub ordered : IsInFifoOrder history

@@ -2,11 +2,19 @@
 use Rattle.std.proofs.Common.{◌≡◌, ◌≢◌, ℕ, ◌<◌, ◌≤◌, ◌⊎◌, inl, inr, Option, Some, None, List, [], length, Result, Ok, Err, codes, refl, sym, ap, subst, ◌∙◌, arith}
 use Rattle.std.specs.List.{flat_map}
 use Rattle.std.specs.Io.KnownBytes.{Appends}
+use Rattle.script_tree.specs.declared.refusal.Refused.{Refused as Refusal}
+use Rattle.script_tree.specs.declared.refusal.ParseRefusal.{ParseRefusal}
+use Rattle.script_tree.specs.declared.refusal.ParseRefusal.TheVariants as parse_refusal
+use Rattle.script_tree.specs.Stand.{Denies}
+use Rattle.script_tree.specs.Grammar.{grammar}
+use Rattle.script_tree.specs.Tree.{Tree}
 use Rattle.pic_io.specs.Faults.{Rose}
 use Rattle.pic_io.specs.Held.{Held, Gives, IsLongerThan, holds}
 use Rattle.pic_machine.specs.declared.world.Start.{Start}
 use Rattle.pic_machine.specs.History.{world, origin_of}
+use Rattle.pic_run.specs.declared.answer.Answer.{Answer}
 use Rattle.pic_run.specs.declared.output.WriteRefusal.{WriteRefusal}
+use Rattle.pic_run.specs.declared.answer.Answer.{Answer}
 use Rattle.pic_run.specs.declared.output.WriteRefusal.TheVariants as refusal
 use Rattle.pic_run.specs.declared.status.Status.{Status}
 use Rattle.pic_run.specs.declared.status.Status.TheVariants.{Done, Usage, Refused, ReadFault, WriteFault, OutOfMemory, TooLarge}
@@ -15,22 +23,68 @@ use Rattle.pic_run.specs.Script.{Script}
 use Rattle.pic_run.specs.Grammar.{IsScript}
 use Rattle.pic_run.specs.Run.{IsRunOf, origin, start_of}
 use Rattle.pic_run.specs.Report.{report, report_lines}
-use Rattle.pic_run.specs.Request.{run, request}
+use Rattle.pic_run.specs.Request.{Command, run, check, show, script_of, request}
+use Rattle.pic_run.specs.Refusal.{IsRefused, IsServed, refusal_text}
 use Rattle.pic_run.specs.Status.{MainReturned}
 use Rattle.pic_run.specs.Output.{AppendsFront, Puts}
 use Rattle.pic_run.specs.Past.{Past, world_of}
-use Rattle.pic_run.specs.Due.{Asked, Answers, refused, ran, Due, usage, read_fault, too_large, answer, Ends, whole, fault, memory, Serves, wrote, gave_up}
-use Rattle.pic_run.specs.Answer.{ended_status}
-use Rattle.pic_run.specs.Headline.{Headline, RefusedBy, ReadFaultBy, TooLargeBy, TookNoMore}
+use Rattle.pic_run.specs.Due.{Asked, Answers, refused, ran, checked, shown, Due, usage, read_fault, too_large, answer, Ends, whole, fault, memory, Serves, wrote, gave_up}
+use Rattle.pic_run.specs.Answer.{Tells, answer_text, answer_status, ended_status}
+use Rattle.pic_run.specs.Headline.{CheckedBy, Headline, RefusedBy, ReadFaultBy, ShownBy, TooLargeBy, TookNoMore}
 
 -- ---- the answer of a script's bytes
 
-pub answers_ran : (bytes : List ℕ) (s : Script) (past : Past) (lines : List (List ℕ)) → IsScript bytes s → past.start ≡ start_of s → IsRunOf s past.history → MainReturned (world (origin s) past.history)
-    → lines ≡ report_lines s.comps past.history (world_of past) → Answers bytes (flat_map (λ line. line) lines) Done
-answers_ran bytes s past lines reads start is returned lines_are =
+pub answers_ran : (bytes script input : List ℕ) (s : Script) (past : Past) (lines : List (List ℕ)) → IsScript bytes s → past.start ≡ start_of s → IsRunOf s past.history → MainReturned (world (origin s) past.history)
+    → lines ≡ report_lines s.comps past.history (world_of past) → Answers bytes (run script input) (flat_map (λ line. line) lines) Done
+answers_ran bytes script input s past lines reads start is returned lines_are =
     let same : flat_map (λ line. line) lines ≡ report s past.history =
     ap (λ (ls : List (List ℕ)). flat_map (λ line. line) ls) (lines_are ∙ ap (λ (b : Start). report_lines s.comps past.history (world (origin_of b) past.history)) start) in
-    subst (λ (text : List ℕ). Answers bytes text Done) (sym same) (ran s past.history reads is returned)
+    subst (λ (text : List ℕ). Answers bytes (run script input) text Done) (sym same) (ran s past.history reads is returned)
+
+pub answers_told : (bytes : List ℕ) (command : Command) (r : Refusal) (made : Answer) → IsRefused command bytes r → Tells made r → Answers bytes command (answer_text made) (answer_status made)
+answers_told bytes command r made cause tells =
+    subst (λ (text : List ℕ). Answers bytes command text (answer_status made)) (sym tells.text)
+    (subst (λ (status : Status). Answers bytes command (refusal_text r) status) (sym tells.status) (refused r cause))
+
+-- what the parser denies is the grammar's first fault
+pub denied : (bytes : List ℕ) (e : ParseRefusal) (r : Refusal) → Denies e (grammar bytes) → e ≡ parse_refusal.Refused r → grammar bytes ≡ Err r
+denied bytes e r denies is = subst (λ (d : ParseRefusal). Denies d (grammar bytes)) is denies
+
+-- an answer is what was asked for, or a refusal
+answers_status : {bytes text : List ℕ} {command : Command} {status : Status} → Answers bytes command text status → (status ≡ Done) ⊎ (status ≡ Refused)
+answers_status (refused r cause) = inr refl
+answers_status (ran s history reads is ended) = inl refl
+answers_status (checked tree reads) = inl refl
+answers_status (shown tree reads) = inl refl
+
+other : {status : Status} {A : Type 0} → (status ≡ Done) ⊎ (status ≡ Refused) → (status ≢ Done) → (status ≢ Refused) → A
+other (inl done) not_done not_refused = absurd (not_done done)
+other (inr is) not_done not_refused = absurd (not_refused is)
+
+-- what is refused is not served
+served_none : (command : Command) (bytes : List ℕ) (r : Refusal) → IsRefused command bytes r → IsServed command bytes → ⊥
+served_none (run script input) bytes r cause served = cause.0 served.0 served.1
+served_none (check script) bytes r cause served = let both : Ok served.0 ≡ Err r = sym served.1 ∙ cause in cc
+served_none (show script) bytes r cause served = let both : Ok served.0 ≡ Err r = sym served.1 ∙ cause in cc
+
+-- an answer that is no refusal serves the command
+answers_served : {bytes text : List ℕ} {command : Command} {status : Status} → Answers bytes command text status → status ≢ Refused → IsServed command bytes
+answers_served (refused r cause) not_refused = absurd (not_refused refl)
+answers_served (ran s history reads is ended) not_refused = (s, reads)
+answers_served (checked tree reads) not_refused = (tree, reads)
+answers_served (shown tree reads) not_refused = (tree, reads)
+
+answers_done : {bytes text : List ℕ} {command : Command} {status : Status} → Answers bytes command text status → IsServed command bytes → status ≡ Done
+answers_done {bytes} {command = command} (refused r cause) served = absurd (served_none command bytes r cause served)
+answers_done (ran s history reads is ended) served = refl
+answers_done (checked tree reads) served = refl
+answers_done (shown tree reads) served = refl
+
+answers_refused : {bytes text : List ℕ} {command : Command} {status : Status} → Answers bytes command text status → (IsServed command bytes → ⊥) → status ≡ Refused
+answers_refused (refused r cause) none = refl
+answers_refused (ran s history reads is ended) none = absurd (none (s, reads))
+answers_refused (checked tree reads) none = absurd (none (tree, reads))
+answers_refused (shown tree reads) none = absurd (none (tree, reads))
 
 -- ---- how the writing ended
 
@@ -48,8 +102,7 @@ module _ (asked : Asked) (before now : Option (List ℕ)) (faults faults_now : �
   good_status (usage none) = (λ h. cc, λ h. cc)
   good_status (read_fault asks rose named) = (λ h. cc, λ h. cc)
   good_status (too_large asks longer) = (λ h. cc, λ h. cc)
-  good_status (answer asks given within (refused none)) = (λ h. cc, λ h. cc)
-  good_status (answer asks given within (ran s history reads is ended)) = (λ h. cc, λ h. cc)
+  good_status (answer asks given within answers) = (λ h. other (answers_status answers) (λ d. cc) (λ d. cc), λ h. other (answers_status answers) (λ d. cc) (λ d. cc))
 
   -- what a status says: either the text that is due with it was written whole
   pub data Told : Status → Type 0 where
@@ -67,15 +120,19 @@ module _ (asked : Asked) (before now : Option (List ℕ)) (faults faults_now : �
   told (wrote due ends) = told_end due ends
   told (gave_up none) = told_nothing none
 
-  due_headline : {text : List ℕ} {status : Status} → Due asked text status → Appends before now text → status ≡ Done → Headline asked.words asked.held before now status
-  due_headline (usage none) appends is = absurd cc
-  due_headline (read_fault asks rose named) appends is = absurd cc
-  due_headline (too_large asks longer) appends is = absurd cc
-  due_headline (answer asks given within (refused none)) appends is = absurd cc
-  due_headline (answer {script} {input} {bytes} asks given within (ran s history reads is_run ended)) appends is = record {
-    script_name = script;
-    input_name = input;
-    asks = asks;
+  -- the file of one command
+  same_command : {a b : Command} → request asked.words ≡ Some a → request asked.words ≡ Some b → a ≡ b
+  same_command {a} {b} p q = let both : Some a ≡ Some b = sym p ∙ q in cc
+
+  given_for : {a b : Command} (bytes : List ℕ) → request asked.words ≡ Some a → request asked.words ≡ Some b → Gives (asked.held (script_of a)) bytes → Gives (asked.held (script_of b)) bytes
+  given_for bytes p q given = subst (λ (c : Command). Gives (asked.held (script_of c)) bytes) (same_command p q) given
+
+  answers_for : {a b : Command} {bytes text : List ℕ} {status : Status} → request asked.words ≡ Some a → request asked.words ≡ Some b → Answers bytes a text status → Answers bytes b text status
+  answers_for {bytes = bytes} {text} {status} p q answers = subst (λ (c : Command). Answers bytes c text status) (same_command p q) answers
+
+  headline_of : {bytes text script input : List ℕ} {status : Status} → Answers bytes (run script input) text status → Gives (asked.held script) bytes → Appends before now text → status ≡ Done → Headline (asked.held script) before now status
+  headline_of (refused r cause) given appends is = absurd cc
+  headline_of {bytes} (ran s history reads is_run ended) given appends is = record {
     bytes = bytes;
     given = given;
     script = s;
@@ -89,18 +146,62 @@ module _ (asked : Asked) (before now : Option (List ℕ)) (faults faults_now : �
     ordered = is_run.ordered;
   }
 
-  pub told_headline : {status : Status} → Told status → status ≡ Done → Headline asked.words asked.held before now status
+  checked_of : {bytes text script : List ℕ} {status : Status} → Answers bytes (check script) text status → Gives (asked.held script) bytes → Appends before now text → status ≡ Done → CheckedBy (asked.held script) before now
+  checked_of (refused r cause) given appends is = absurd cc
+  checked_of {bytes} (checked tree reads) given appends is = record { bytes = bytes; given = given; tree = tree; reads = reads; written = appends }
+
+  shown_of : {bytes text script : List ℕ} {status : Status} → Answers bytes (show script) text status → Gives (asked.held script) bytes → Appends before now text → status ≡ Done → ShownBy (asked.held script) before now
+  shown_of (refused r cause) given appends is = absurd cc
+  shown_of {bytes} (shown tree reads) given appends is = record { bytes = bytes; given = given; tree = tree; reads = reads; written = appends }
+
+  refused_of : {bytes text : List ℕ} {command : Command} {status : Status} → Answers bytes command text status → request asked.words ≡ Some command → Gives (asked.held (script_of command)) bytes → Appends before now text → status ≡ Refused
+      → RefusedBy asked.words asked.held before now
+  refused_of {bytes} {command = command} (refused r cause) asks given appends is = record { command = command; asks = asks; bytes = bytes; given = given; refusal = r; cause = cause; written = appends }
+  refused_of (ran s history reads is_run ended) asks given appends is = absurd cc
+  refused_of (checked tree reads) asks given appends is = absurd cc
+  refused_of (shown tree reads) asks given appends is = absurd cc
+
+  due_headline : {text : List ℕ} {status : Status} → Due asked text status → Appends before now text → status ≡ Done → (script input : List ℕ) → request asked.words ≡ Some (run script input) → Headline (asked.held script) before now status
+  due_headline (usage none) appends is script input asks = absurd cc
+  due_headline (read_fault asks' rose named) appends is script input asks = absurd cc
+  due_headline (too_large asks' longer) appends is script input asks = absurd cc
+  due_headline (answer {bytes = bytes} asks' given within answers) appends is script input asks = headline_of (answers_for asks' asks answers) (given_for bytes asks' asks given) appends is
+
+  pub told_headline : {status : Status} → Told status → status ≡ Done → (script input : List ℕ) → request asked.words ≡ Some (run script input) → Headline (asked.held script) before now status
   told_headline (told_whole due appends) is = due_headline due appends is
   told_headline (told_fault due front rose) is = absurd cc
   told_headline (told_memory due front) is = absurd cc
   told_headline (told_nothing none) is = absurd cc
 
+  due_checked : {text : List ℕ} {status : Status} → Due asked text status → Appends before now text → status ≡ Done → (script : List ℕ) → request asked.words ≡ Some (check script) → CheckedBy (asked.held script) before now
+  due_checked (usage none) appends is script asks = absurd cc
+  due_checked (read_fault asks' rose named) appends is script asks = absurd cc
+  due_checked (too_large asks' longer) appends is script asks = absurd cc
+  due_checked (answer {bytes = bytes} asks' given within answers) appends is script asks = checked_of (answers_for asks' asks answers) (given_for bytes asks' asks given) appends is
+
+  pub told_checked : {status : Status} → Told status → status ≡ Done → (script : List ℕ) → request asked.words ≡ Some (check script) → CheckedBy (asked.held script) before now
+  told_checked (told_whole due appends) is = due_checked due appends is
+  told_checked (told_fault due front rose) is = absurd cc
+  told_checked (told_memory due front) is = absurd cc
+  told_checked (told_nothing none) is = absurd cc
+
+  due_shown : {text : List ℕ} {status : Status} → Due asked text status → Appends before now text → status ≡ Done → (script : List ℕ) → request asked.words ≡ Some (show script) → ShownBy (asked.held script) before now
+  due_shown (usage none) appends is script asks = absurd cc
+  due_shown (read_fault asks' rose named) appends is script asks = absurd cc
+  due_shown (too_large asks' longer) appends is script asks = absurd cc
+  due_shown (answer {bytes = bytes} asks' given within answers) appends is script asks = shown_of (answers_for asks' asks answers) (given_for bytes asks' asks given) appends is
+
+  pub told_shown : {status : Status} → Told status → status ≡ Done → (script : List ℕ) → request asked.words ≡ Some (show script) → ShownBy (asked.held script) before now
+  told_shown (told_whole due appends) is = due_shown due appends is
+  told_shown (told_fault due front rose) is = absurd cc
+  told_shown (told_memory due front) is = absurd cc
+  told_shown (told_nothing none) is = absurd cc
+
   due_usage : {text : List ℕ} {status : Status} → Due asked text status → Appends before now text → status ≡ Usage → (request asked.words ≡ None) × Appends before now (codes "usage\n")
   due_usage (usage none) appends is = (none, appends)
   due_usage (read_fault asks rose named) appends is = absurd cc
   due_usage (too_large asks longer) appends is = absurd cc
-  due_usage (answer asks given within (refused none)) appends is = absurd cc
-  due_usage (answer asks given within (ran s history reads is_run ended)) appends is = absurd cc
+  due_usage (answer asks given within answers) appends is = other (answers_status answers) (λ d. cc) (λ d. cc)
 
   pub told_usage : {status : Status} → Told status → status ≡ Usage → (request asked.words ≡ None) × Appends before now (codes "usage\n")
   told_usage (told_whole due appends) is = due_usage due appends is
@@ -112,8 +213,7 @@ module _ (asked : Asked) (before now : Option (List ℕ)) (faults faults_now : �
   due_refused (usage none) appends is = absurd cc
   due_refused (read_fault asks rose named) appends is = absurd cc
   due_refused (too_large asks longer) appends is = absurd cc
-  due_refused (answer {script} {input} {bytes} asks given within (refused none)) appends is = record { script_name = script; input_name = input; asks = asks; bytes = bytes; given = given; none = none; written = appends }
-  due_refused (answer asks given within (ran s history reads is_run ended)) appends is = absurd cc
+  due_refused (answer asks given within answers) appends is = refused_of answers asks given appends is
 
   pub told_refused : {status : Status} → Told status → status ≡ Refused → RefusedBy asked.words asked.held before now
   told_refused (told_whole due appends) is = due_refused due appends is
@@ -123,10 +223,9 @@ module _ (asked : Asked) (before now : Option (List ℕ)) (faults faults_now : �
 
   due_read_fault : {text : List ℕ} {status : Status} → Due asked text status → Appends before now text → status ≡ ReadFault → ReadFaultBy asked.words asked.faults asked.faults_now asked.failed before now
   due_read_fault (usage none) appends is = absurd cc
-  due_read_fault (read_fault {script} {input} asks rose named) appends is = record { script_name = script; input_name = input; asks = asks; rose = rose; named = named; written = appends }
+  due_read_fault (read_fault {command} asks rose named) appends is = record { command = command; asks = asks; rose = rose; named = named; written = appends }
   due_read_fault (too_large asks longer) appends is = absurd cc
-  due_read_fault (answer asks given within (refused none)) appends is = absurd cc
-  due_read_fault (answer asks given within (ran s history reads is_run ended)) appends is = absurd cc
+  due_read_fault (answer asks given within answers) appends is = other (answers_status answers) (λ d. cc) (λ d. cc)
 
   pub told_read_fault : {status : Status} → Told status → status ≡ ReadFault → ReadFaultBy asked.words asked.faults asked.faults_now asked.failed before now
   told_read_fault (told_whole due appends) is = due_read_fault due appends is
@@ -137,9 +236,8 @@ module _ (asked : Asked) (before now : Option (List ℕ)) (faults faults_now : �
   due_too_large : {text : List ℕ} {status : Status} → Due asked text status → Appends before now text → status ≡ TooLarge → TooLargeBy asked.words asked.held before now
   due_too_large (usage none) appends is = absurd cc
   due_too_large (read_fault asks rose named) appends is = absurd cc
-  due_too_large (too_large {script} {input} asks longer) appends is = record { script_name = script; input_name = input; asks = asks; longer = longer; written = appends }
-  due_too_large (answer asks given within (refused none)) appends is = absurd cc
-  due_too_large (answer asks given within (ran s history reads is_run ended)) appends is = absurd cc
+  due_too_large (too_large {command} asks longer) appends is = record { command = command; asks = asks; longer = longer; written = appends }
+  due_too_large (answer asks given within answers) appends is = other (answers_status answers) (λ d. cc) (λ d. cc)
 
   pub told_too_large : {status : Status} → Told status → status ≡ TooLarge → TooLargeBy asked.words asked.held before now
   told_too_large (told_whole due appends) is = due_too_large due appends is
@@ -170,45 +268,42 @@ module _ (asked : Asked) (before now : Option (List ℕ)) (faults faults_now : �
   told_no_request (told_memory due front) absent = inr (inr refl)
   told_no_request (told_nothing none) absent = inr (inr refl)
 
-  same_script : {script script' input input' : List ℕ} → request asked.words ≡ Some (run script input) → request asked.words ≡ Some (run script' input') → script ≡ script'
-  same_script {script} {script'} {input} {input'} p q = let both : Some (run script input) ≡ Some (run script' input') = sym p ∙ q in cc
+  module _ (command : Command) (bytes : List ℕ) (asks : request asked.words ≡ Some command) (there : asked.held (script_of command) ≡ holds bytes) where
+    same_bytes : {other : Command} (bytes' : List ℕ) → request asked.words ≡ Some other → Gives (asked.held (script_of other)) bytes' → bytes' ≡ bytes
+    same_bytes {other} bytes' asks' given = subst (λ (h : Held). Gives h bytes') there (given_for bytes' asks' asks given)
 
-  module _ (script input bytes : List ℕ) (asks : request asked.words ≡ Some (run script input)) (there : asked.held script ≡ holds bytes) where
-    same_bytes : {script' input' bytes' : List ℕ} → request asked.words ≡ Some (run script' input') → Gives (asked.held script') bytes' → bytes' ≡ bytes
-    same_bytes {script'} {input'} {bytes'} asks' given =
-        let at : Gives (asked.held script) bytes' = subst (λ (n : List ℕ). Gives (asked.held n) bytes') (sym (same_script asks asks')) given in
-        subst (λ (h : Held). Gives h bytes') there at
+    -- an answer for the bytes that are there
+    answers_there : {other : Command} {bytes' text : List ℕ} {status : Status} → request asked.words ≡ Some other → Gives (asked.held (script_of other)) bytes' → Answers bytes' other text status → Answers bytes command text status
+    answers_there {other} {bytes'} {text} {status} asks' given answers = subst (λ (b : List ℕ). Answers b command text status) (same_bytes bytes' asks' given) (answers_for asks' asks answers)
 
-    not_longer : {script' input' : List ℕ} → length bytes ≤ MOST_BYTES → request asked.words ≡ Some (run script' input') → IsLongerThan (asked.held script') MOST_BYTES → ⊥
-    not_longer {script'} {input'} within asks' longer =
-        let at : IsLongerThan (asked.held script) MOST_BYTES = subst (λ (n : List ℕ). IsLongerThan (asked.held n) MOST_BYTES) (sym (same_script asks asks')) longer in
+    not_longer : {other : Command} → length bytes ≤ MOST_BYTES → request asked.words ≡ Some other → IsLongerThan (asked.held (script_of other)) MOST_BYTES → ⊥
+    not_longer {other} within asks' longer =
+        let at : IsLongerThan (asked.held (script_of command)) MOST_BYTES = subst (λ (c : Command). IsLongerThan (asked.held (script_of c)) MOST_BYTES) (same_command asks' asks) longer in
         let more : MOST_BYTES < length bytes = subst (λ (h : Held). IsLongerThan h MOST_BYTES) there at in
         omega arith
 
     module _ (calm : Rose asked.faults asked.faults_now → ⊥) where
-      pub told_accepted : {status : Status} → Told status → length bytes ≤ MOST_BYTES → (Rose faults faults_now → ⊥) → (s : Script) → IsScript bytes s → (status ≡ Done) ⊎ (status ≡ OutOfMemory)
-      told_accepted (told_whole (usage none) appends) within sound s reads = absurd cc
-      told_accepted (told_whole (read_fault asks' rose named) appends) within sound s reads = absurd (calm rose)
-      told_accepted (told_whole (too_large asks' longer) appends) within sound s reads = absurd (not_longer within asks' longer)
-      told_accepted (told_whole (answer asks' given fits (refused none)) appends) within sound s reads = absurd (none s (subst (λ (b : List ℕ). IsScript b s) (sym (same_bytes asks' given)) reads))
-      told_accepted (told_whole (answer asks' given fits (ran s' history reads' is_run ended)) appends) within sound s reads = inl refl
-      told_accepted (told_fault due front rose) within sound s reads = absurd (sound rose)
-      told_accepted (told_memory due front) within sound s reads = inr refl
-      told_accepted (told_nothing none) within sound s reads = inr refl
+      pub told_accepted : {status : Status} → Told status → length bytes ≤ MOST_BYTES → (Rose faults faults_now → ⊥) → IsServed command bytes → (status ≡ Done) ⊎ (status ≡ OutOfMemory)
+      told_accepted (told_whole (usage none) appends) within sound served = absurd cc
+      told_accepted (told_whole (read_fault asks' rose named) appends) within sound served = absurd (calm rose)
+      told_accepted (told_whole (too_large asks' longer) appends) within sound served = absurd (not_longer within asks' longer)
+      told_accepted (told_whole (answer asks' given fits answers) appends) within sound served = inl (answers_done (answers_there asks' given answers) served)
+      told_accepted (told_fault due front rose) within sound served = absurd (sound rose)
+      told_accepted (told_memory due front) within sound served = inr refl
+      told_accepted (told_nothing none) within sound served = inr refl
 
-      pub told_outside : {status : Status} → Told status → length bytes ≤ MOST_BYTES → ((s : Script) → IsScript bytes s → ⊥) → (status ≡ Refused) ⊎ ((status ≡ WriteFault) ⊎ (status ≡ OutOfMemory))
+      pub told_outside : {status : Status} → Told status → length bytes ≤ MOST_BYTES → (IsServed command bytes → ⊥) → (status ≡ Refused) ⊎ ((status ≡ WriteFault) ⊎ (status ≡ OutOfMemory))
       told_outside (told_whole (usage none) appends) within outside = absurd cc
       told_outside (told_whole (read_fault asks' rose named) appends) within outside = absurd (calm rose)
       told_outside (told_whole (too_large asks' longer) appends) within outside = absurd (not_longer within asks' longer)
-      told_outside (told_whole (answer asks' given fits (refused none)) appends) within outside = inl refl
-      told_outside (told_whole (answer asks' given fits (ran s history reads is_run ended)) appends) within outside = absurd (outside s (subst (λ (b : List ℕ). IsScript b s) (same_bytes asks' given) reads))
+      told_outside (told_whole (answer asks' given fits answers) appends) within outside = inl (answers_refused (answers_there asks' given answers) outside)
       told_outside (told_fault due front rose) within outside = inr (inl refl)
       told_outside (told_memory due front) within outside = inr (inr refl)
       told_outside (told_nothing none) within outside = inr (inr refl)
 
-      longer_than : (bytes' : List ℕ) {script' input' : List ℕ} → MOST_BYTES < length bytes → request asked.words ≡ Some (run script' input') → Gives (asked.held script') bytes' → length bytes' ≤ MOST_BYTES → ⊥
+      longer_than : (bytes' : List ℕ) {other : Command} → MOST_BYTES < length bytes → request asked.words ≡ Some other → Gives (asked.held (script_of other)) bytes' → length bytes' ≤ MOST_BYTES → ⊥
       longer_than bytes' more asks' given within =
-          let same : length bytes' ≡ length bytes = ap length (same_bytes asks' given) in
+          let same : length bytes' ≡ length bytes = ap length (same_bytes bytes' asks' given) in
           omega arith
 
       pub told_longer : {status : Status} → Told status → MOST_BYTES < length bytes → (status ≡ TooLarge) ⊎ ((status ≡ WriteFault) ⊎ (status ≡ OutOfMemory))

@@ -1,5 +1,5 @@
 -- Which text a call has to write, and how the writing of it ended.
-use Rattle.std.specs.Prelude.{◌≡◌, ℕ, ◌≤◌, Option, Some, None, List, [], length, codes}
+use Rattle.std.specs.Prelude.{◌≡◌, ℕ, ◌≤◌, Option, Some, None, Ok, List, [], length, codes}
 use Rattle.std.specs.Io.KnownBytes.{Appends}
 use Rattle.pic_io.specs.Faults.{Rose}
 use Rattle.pic_io.specs.Held.{Held, Gives, IsLongerThan}
@@ -12,7 +12,12 @@ use Rattle.pic_run.specs.Script.{Script}
 use Rattle.pic_run.specs.Grammar.{IsScript}
 use Rattle.pic_run.specs.Run.{IsRunOf, origin}
 use Rattle.pic_run.specs.Report.{report}
-use Rattle.pic_run.specs.Request.{run, request}
+use Rattle.pic_run.specs.Request.{Command, run, check, show, script_of, request}
+use Rattle.pic_run.specs.Refusal.{IsRefused, refusal_text}
+use Rattle.script_tree.specs.declared.refusal.Refused.{Refused as Refusal}
+use Rattle.script_tree.specs.Tree.{Tree}
+use Rattle.script_tree.specs.Grammar.{grammar}
+use Rattle.script_tree.specs.Canon.{canon}
 use Rattle.pic_run.specs.Status.{IsStatusOf}
 use Rattle.pic_run.specs.Output.{AppendsFront}
 
@@ -34,26 +39,33 @@ asked_of words held faults faults_now failed = record {
   failed = failed;
 }
 
--- what the bytes of a script have to answer: that they are none, or the report of one run of it, with
--- main's end as the status
-pub data Answers (bytes : List ℕ) : List ℕ → Status → Type 0 where
-  refused : ((s : Script) → IsScript bytes s → ⊥)
-      → Answers bytes (codes "refused line 0 cause 0\n") Refused
-  ran : (s : Script) (history : List Happened) → IsScript bytes s → IsRunOf s history
-      → IsStatusOf (world (origin s) history) Done → Answers bytes (report s history) Done
+-- what the bytes of a script's file have to answer: how they are refused, or what the command asks
+-- for: the report of one run, with main's end as the status; that they are a script; or its
+-- canonical text
+pub data Answers (bytes : List ℕ) : Command → List ℕ → Status → Type 0 where
+  refused : {command : Command} (r : Refusal) → IsRefused command bytes r
+      → Answers bytes command (refusal_text r) Refused
+  ran : {script input : List ℕ} (s : Script) (history : List Happened) → IsScript bytes s
+      → IsRunOf s history → IsStatusOf (world (origin s) history) Done
+      → Answers bytes (run script input) (report s history) Done
+  checked : {script : List ℕ} (tree : Tree) → grammar bytes ≡ Ok tree
+      → Answers bytes (check script) (codes "ok\n") Done
+  shown : {script : List ℕ} (tree : Tree) → grammar bytes ≡ Ok tree
+      → Answers bytes (show script) (canon tree) Done
 
 -- the text is due, with this status where it is written whole
 pub data Due (asked : Asked) : List ℕ → Status → Type 0 where
   usage : request asked.words ≡ None → Due asked (codes "usage\n") Usage
-  read_fault : {script input : List ℕ} → request asked.words ≡ Some (run script input)
-      → Rose asked.faults asked.faults_now → asked.failed ≡ Some script
+  read_fault : {command : Command} → request asked.words ≡ Some command
+      → Rose asked.faults asked.faults_now → asked.failed ≡ Some (script_of command)
       → Due asked (codes "read fault\n") ReadFault
-  too_large : {script input : List ℕ} → request asked.words ≡ Some (run script input)
-      → IsLongerThan (asked.held script) MOST_BYTES → Due asked (codes "too large\n") TooLarge
-  answer : {script input bytes text : List ℕ} {status : Status}
-      → request asked.words ≡ Some (run script input)
-      → Gives (asked.held script) bytes → length bytes ≤ MOST_BYTES
-      → Answers bytes text status → Due asked text status
+  too_large : {command : Command} → request asked.words ≡ Some command
+      → IsLongerThan (asked.held (script_of command)) MOST_BYTES
+      → Due asked (codes "too large\n") TooLarge
+  answer : {command : Command} {bytes text : List ℕ} {status : Status}
+      → request asked.words ≡ Some command
+      → Gives (asked.held (script_of command)) bytes → length bytes ≤ MOST_BYTES
+      → Answers bytes command text status → Due asked text status
 
 -- how the writing ended: the whole text with its status, or a front of it with a fault of the sink, or
 -- with want of memory

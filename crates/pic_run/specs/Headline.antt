@@ -1,5 +1,5 @@
 -- The headline: what a call that answers Done says of the script, the history and the report.
-use Rattle.std.specs.Prelude.{◌≡◌, ℕ, Option, Some, List, ◌⊎◌, [], codes}
+use Rattle.std.specs.Prelude.{◌≡◌, ℕ, Option, Some, Ok, List, ◌⊎◌, [], codes}
 use Rattle.std.specs.Io.KnownBytes.{Appends}
 use Rattle.pic_io.specs.Faults.{Rose}
 use Rattle.pic_io.specs.Held.{Held, Gives, IsLongerThan}
@@ -16,20 +16,20 @@ use Rattle.pic_run.specs.Grammar.{IsScript}
 use Rattle.pic_run.specs.Meaning.{FollowsText}
 use Rattle.pic_run.specs.Run.{origin}
 use Rattle.pic_run.specs.Report.{report}
-use Rattle.pic_run.specs.Request.{run, request}
+use Rattle.pic_run.specs.Request.{Command, script_of, request}
+use Rattle.pic_run.specs.Refusal.{IsRefused, refusal_text}
+use Rattle.script_tree.specs.declared.refusal.Refused.{Refused as Refusal}
+use Rattle.script_tree.specs.Tree.{Tree}
+use Rattle.script_tree.specs.Grammar.{grammar}
+use Rattle.script_tree.specs.Canon.{canon}
 use Rattle.pic_run.specs.Status.{IsStatusOf}
 use Rattle.pic_run.specs.Output.{AppendsFront}
 use Rattle.pic_run.specs.Due.{Asked, Due}
 
--- The words ask for a run of a script's file, whose bytes are a script, and there is one history such
--- that:
-pub record Headline (words : List (List ℕ)) (held : List ℕ → Held) (before now : Option (List ℕ)) (status : Status)
-    : Type 0 where
-  pub script_name : List ℕ
-  pub input_name : List ℕ
-  pub asks : request words ≡ Some (run script_name input_name)
+-- The bytes of the script's file are a script, and there is one history such that:
+pub record Headline (held : Held) (before now : Option (List ℕ)) (status : Status) : Type 0 where
   pub bytes : List ℕ
-  pub given : Gives (held script_name) bytes
+  pub given : Gives held bytes
   pub script : Script
   pub reads : IsScript bytes script
   pub history : List Happened
@@ -47,6 +47,22 @@ pub record Headline (words : List (List ℕ)) (held : List ℕ → Held) (before
   -- its turns stand in the FIFO order
   pub ordered : IsInFifoOrder history
 
+-- The bytes of the script's file are a script, and the sink took the line that says so.
+pub record CheckedBy (held : Held) (before now : Option (List ℕ)) : Type 0 where
+  pub bytes : List ℕ
+  pub given : Gives held bytes
+  pub tree : Tree
+  pub reads : grammar bytes ≡ Ok tree
+  pub written : Appends before now (codes "ok\n")
+
+-- The bytes of the script's file are a script, and the sink took its canonical text.
+pub record ShownBy (held : Held) (before now : Option (List ℕ)) : Type 0 where
+  pub bytes : List ℕ
+  pub given : Gives held bytes
+  pub tree : Tree
+  pub reads : grammar bytes ≡ Ok tree
+  pub written : Appends before now (canon tree)
+
 -- what the sink took is a front of a text that was due
 pub record TookFront (asked : Asked) (before now : Option (List ℕ)) : Type 0 where
   pub text : List ℕ
@@ -58,31 +74,29 @@ pub record TookFront (asked : Asked) (before now : Option (List ℕ)) : Type 0 w
 abbrev pub TookNoMore : Asked → Option (List ℕ) → Option (List ℕ) → Type 0
 TookNoMore asked before now = Appends before now [] ⊎ TookFront asked before now
 
--- The script was refused: the words ask for a run of a file whose bytes are no script, and the sink
--- took the line that says so.
+-- The script was refused: the bytes of its file are not what the words ask for, and the sink took the
+-- line that says why.
 pub record RefusedBy (words : List (List ℕ)) (held : List ℕ → Held) (before now : Option (List ℕ)) : Type 0 where
-  pub script_name : List ℕ
-  pub input_name : List ℕ
-  pub asks : request words ≡ Some (run script_name input_name)
+  pub command : Command
+  pub asks : request words ≡ Some command
   pub bytes : List ℕ
-  pub given : Gives (held script_name) bytes
-  pub none : (script : Script) → IsScript bytes script → ⊥
-  pub written : Appends before now (codes "refused line 0 cause 0\n")
+  pub given : Gives (held (script_of command)) bytes
+  pub refusal : Refusal
+  pub cause : IsRefused command bytes refusal
+  pub written : Appends before now (refusal_text refusal)
 
 -- A read failed: the files' faults rose in this call, and the last failed read was of the script.
 pub record ReadFaultBy (words : List (List ℕ)) (faults faults_now : ℕ) (failed : Option (List ℕ))
     (before now : Option (List ℕ)) : Type 0 where
-  pub script_name : List ℕ
-  pub input_name : List ℕ
-  pub asks : request words ≡ Some (run script_name input_name)
+  pub command : Command
+  pub asks : request words ≡ Some command
   pub rose : Rose faults faults_now
-  pub named : failed ≡ Some script_name
+  pub named : failed ≡ Some (script_of command)
   pub written : Appends before now (codes "read fault\n")
 
 -- The script's file is longer than a script may be.
 pub record TooLargeBy (words : List (List ℕ)) (held : List ℕ → Held) (before now : Option (List ℕ)) : Type 0 where
-  pub script_name : List ℕ
-  pub input_name : List ℕ
-  pub asks : request words ≡ Some (run script_name input_name)
-  pub longer : IsLongerThan (held script_name) MOST_BYTES
+  pub command : Command
+  pub asks : request words ≡ Some command
+  pub longer : IsLongerThan (held (script_of command)) MOST_BYTES
   pub written : Appends before now (codes "too large\n")

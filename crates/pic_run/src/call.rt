@@ -4,11 +4,10 @@ ghost use Rattle.std.specs.Io.KnownBytes.{Appends};
 ghost use Rattle.pic_io.specs.Faults.{Rose};
 ghost use Rattle.pic_io.specs.Held.{holds};
 ghost use Rattle.pic_run.specs.declared.limits.TheConstants.{MOST_BYTES};
-ghost use Rattle.pic_run.specs.Script.{Script};
-ghost use Rattle.pic_run.specs.Grammar.{IsScript};
-ghost use Rattle.pic_run.specs.Request.{request, run};
+ghost use Rattle.pic_run.specs.Request.{Command, check, request, run, script_of, show};
+ghost use Rattle.pic_run.specs.Refusal.{IsServed};
 ghost use Rattle.pic_run.specs.Due.{Serves, asked_of};
-ghost use Rattle.pic_run.specs.Headline.{Headline, ReadFaultBy, RefusedBy, TookNoMore, TooLargeBy};
+ghost use Rattle.pic_run.specs.Headline.{CheckedBy, Headline, ReadFaultBy, RefusedBy, ShownBy, TookNoMore, TooLargeBy};
 ghost use Rattle.pic_run.specs.Answer.{ended_status};
 
 use crate::answer::{Answer, answer_of};
@@ -17,8 +16,8 @@ use crate::status::Status;
 use pic_io::{Files, Sink};
 use std::alloc::Global;
 
-/// Does what the words ask for: reads the script, runs it, and writes its report, or one line that
-/// says why there is none. The words are the arguments without the program's name; the file of the
+/// Does what the words ask for: reads the script, and writes the report of a run of it, that it is
+/// one, or its canonical text, or one line that says why it doesn't. The words are the arguments without the program's name; the file of the
 /// input is not opened yet, since no statement reads it. Want of memory may come at any point.
 pub fn run_one_call<F: Files, K: Sink>(
     alloc: Global,
@@ -27,8 +26,17 @@ pub fn run_one_call<F: Files, K: Sink>(
     out: &mut K,
 ) -> Status
     // A run: one legal history of the machine, and its report.
-    ensures headline { result ≡ Status.Done
-        → Headline (map string_bytes words.now) (F.held files.old) (K.taken out.old) (K.taken out.new) result }
+    ensures headline { result ≡ Status.Done → (script input : List ℕ)
+        → request (map string_bytes words.now) ≡ Some (run script input)
+        → Headline (F.held files.old script) (K.taken out.old) (K.taken out.new) result }
+
+    // A script that was read, and what was asked of it.
+    ensures checked { result ≡ Status.Done → (script : List ℕ)
+        → request (map string_bytes words.now) ≡ Some (check script)
+        → CheckedBy (F.held files.old script) (K.taken out.old) (K.taken out.new) }
+    ensures shown { result ≡ Status.Done → (script : List ℕ)
+        → request (map string_bytes words.now) ≡ Some (show script)
+        → ShownBy (F.held files.old script) (K.taken out.old) (K.taken out.new) }
 
     // When each other answer comes, and what the sink took with it.
     ensures usage { result ≡ Status.Usage
@@ -56,26 +64,26 @@ pub fn run_one_call<F: Files, K: Sink>(
         → (result ≡ Status.Usage) ⊎ ((result ≡ Status.WriteFault) ⊎ (result ≡ Status.OutOfMemory)) }
     ensures untouched { request (map string_bytes words.now) ≡ None → files.new ≡ files.old }
 
-    // A script within the size is run, unless a fault occurs in this call.
-    ensures accepted { (script input bytes : List ℕ)
-        → request (map string_bytes words.now) ≡ Some (run script input)
-        → F.held files.old script ≡ holds bytes
+    // A script within the size is served, unless a fault occurs in this call.
+    ensures accepted { (command : Command) (bytes : List ℕ)
+        → request (map string_bytes words.now) ≡ Some command
+        → F.held files.old (script_of command) ≡ holds bytes
         → (Rose (F.fault_count files.old) (F.fault_count files.new) → ⊥)
         → length bytes ≤ MOST_BYTES
         → (Rose (K.fault_count out.old) (K.fault_count out.new) → ⊥)
-        → (s : Script) → IsScript bytes s → (result ≡ Status.Done) ⊎ (result ≡ Status.OutOfMemory) }
+        → IsServed command bytes → (result ≡ Status.Done) ⊎ (result ≡ Status.OutOfMemory) }
 
     // Bytes within the size that are no script are refused, and longer ones are too large.
-    ensures outside { (script input bytes : List ℕ)
-        → request (map string_bytes words.now) ≡ Some (run script input)
-        → F.held files.old script ≡ holds bytes
+    ensures outside { (command : Command) (bytes : List ℕ)
+        → request (map string_bytes words.now) ≡ Some command
+        → F.held files.old (script_of command) ≡ holds bytes
         → (Rose (F.fault_count files.old) (F.fault_count files.new) → ⊥)
         → length bytes ≤ MOST_BYTES
-        → ((s : Script) → IsScript bytes s → ⊥)
+        → (IsServed command bytes → ⊥)
         → (result ≡ Status.Refused) ⊎ ((result ≡ Status.WriteFault) ⊎ (result ≡ Status.OutOfMemory)) }
-    ensures longer { (script input bytes : List ℕ)
-        → request (map string_bytes words.now) ≡ Some (run script input)
-        → F.held files.old script ≡ holds bytes
+    ensures longer { (command : Command) (bytes : List ℕ)
+        → request (map string_bytes words.now) ≡ Some command
+        → F.held files.old (script_of command) ≡ holds bytes
         → (Rose (F.fault_count files.old) (F.fault_count files.new) → ⊥)
         → MOST_BYTES < length bytes
         → (result ≡ Status.TooLarge) ⊎ ((result ≡ Status.WriteFault) ⊎ (result ≡ Status.OutOfMemory)) }
@@ -102,6 +110,7 @@ fn call_once<F: Files, K: Sink>(
     };
     match answer {
         Answer::Text(text, status) => ended(put_all(out, text.as_bytes()), status),
+        Answer::Made(text, status) => ended(put_all(out, text.as_str().as_bytes()), status),
         Answer::Report(lines) => ended(put_lines(out, lines.as_slice()), Status::Done),
     }
 }

@@ -1,11 +1,13 @@
 //! The top call, `run_one_call`: from the words of a command line to the bytes of a report.
 //!
-//! On the way it reads the script (`reader`), runs main's statements on the machine and keeps the
-//! history (`run`, `runner`, `fiber`), and writes the report (`report`, `output`). It stands on
-//! `pic_machine` for worlds and legal histories and on `pic_io` for files and the sink. `specs/` has
-//! the definitions that its contract cites: the script form (`Grammar`, `Names`), what statements
-//! mean (`Meaning`), which histories are runs (`Run`), the report's text (`Report`), the words
-//! (`Request`), and the promise itself (`Headline`, `Due`). The program uses that one contract.
+//! For a run it reads the script (`reader`), runs main's statements on the machine and keeps the
+//! history (`run`, `runner`, `fiber`), and writes the report (`report`, `output`). To check or show a
+//! script it asks `script_tree`. It stands on `pic_machine` for worlds and legal histories, on
+//! `script_tree` for the grammar and the canonical text, and on `pic_io` for files and the sink.
+//! `specs/` has the definitions that its contract cites: the form that a run serves (`Grammar`,
+//! `Names`), what statements mean (`Meaning`), which histories are runs (`Run`), the report's text
+//! (`Report`), the words (`Request`), what is refused (`Refusal`), and the promise itself
+//! (`Headline`, `Due`). The program uses that one contract.
 #![tactic(auto)]
 
 mod answer;

@@ -60,11 +60,66 @@ fn reports(rt: HostRuntime) -> Result<(), Fail> {
 }
 
 #[test]
+fn checks_and_shows(rt: HostRuntime) -> Result<(), Fail> {
+    let alloc = rt.alloc();
+    let loose: &[u8] = b"picos 1\n#c\nmain\n set  r1   5\nend";
+    let choice: &[u8] = b"picos 1\nmain\nselect r1 r2\non always 7\nend\nend\n";
+    let other: &[u8] = b"picos 1\nmain\nset r1 5\nsay r1 r2\nend\n";
+    let table: [(&[&str], &[u8], Status, &[u8]); 7] = [
+        (&["check", "a"], loose, Status::Done, b"ok\n"),
+        (
+            &["show", "a"],
+            loose,
+            Status::Done,
+            b"picos 1\nmain\n  set r1 5\nend\n",
+        ),
+        (&["check", "a"], choice, Status::Done, b"ok\n"),
+        (
+            &["run", "a", "b"],
+            choice,
+            Status::Refused,
+            b"refused line 0 cause 0\n",
+        ),
+        (
+            &["check", "a"],
+            other,
+            Status::Refused,
+            b"refused line 4 cause 2\n",
+        ),
+        (
+            &["show", "a"],
+            other,
+            Status::Refused,
+            b"refused line 4 cause 2\n",
+        ),
+        (
+            &["show", "a"],
+            b"picos 2\n",
+            Status::Refused,
+            b"refused line 1 cause 1\n",
+        ),
+    ];
+    for (texts, script, status, text) in table {
+        let words = words(alloc, texts)?;
+        let mut files = file_a(alloc, script)?;
+        let mut out = MemSink::new(alloc);
+        let ended = run_one_call(alloc, words.as_slice(), &mut files, &mut out);
+        assert_eq!(rt; ended, status);
+        assert_eq!(rt; out.bytes.as_slice(), text);
+    }
+    Ok(())
+}
+
+#[test]
 fn words_without_a_request(rt: HostRuntime) -> Result<(), Fail> {
     let alloc = rt.alloc();
-    let table: [&[&str]; 5] = [
+    let table: [&[&str]; 9] = [
         &[],
         &["run", "a"],
+        &["check"],
+        &["check", "a", "b"],
+        &["show", "-a"],
+        &["shows", "a"],
         &["run", "a", "-b"],
         &["walk", "a", "b"],
         &["run", "a", "b", "c"],

@@ -1,4 +1,4 @@
-use Rattle.std.proofs.Common.{List, ℕ, map, subst}
+use Rattle.std.proofs.Common.{List, ℕ, map, subst, ◌∙◌}
 use Rattle.std.specs.List.{flat_map}
 use Rattle.std.specs.String.{string_bytes}
 use Rattle.std.proofs.KnownBytes.{Appends-nil}
@@ -22,6 +22,19 @@ returns-in-Text-clause-serves g c =
     rw c.ended.ensures
     (serves_put (asked_of (map string_bytes c.args.words.now) (g.F.Files.held c.args.files.now) (g.F.Files.fault_count c.args.files.now) (g.F.Files.fault_count c.answer_of.new.files) (g.F.Files.last_failed c.answer_of.new.files))
     before now faults faults_now c.in-Text.text.now c.in-Text.status c.put_all.result due puts)
+
+pub returns-in-Made-clause-serves : goal.returns-in-Made-clause-serves
+returns-in-Made-clause-serves g c =
+    let before = g.K.Sink.taken c.args.out.now in
+    let now = g.K.Sink.taken c.put_all-in-Made.new.out in
+    let faults = g.K.Sink.fault_count c.args.out.now in
+    let faults_now = g.K.Sink.fault_count c.put_all-in-Made.new.out in
+    let due = rw c.in-Made.is at c.in-Ok.ensures.due in
+    let puts : Puts before now faults faults_now (string_bytes c.in-Made.text) c.put_all-in-Made.result =
+    subst (λ (w : List ℕ). Puts before now faults faults_now w c.put_all-in-Made.result) (c.as_bytes-in-Made.ensures.value ∙ c.as_str.ensures.value) c.put_all-in-Made.ensures in
+    rw c.ended-in-Made.ensures
+    (serves_put (asked_of (map string_bytes c.args.words.now) (g.F.Files.held c.args.files.now) (g.F.Files.fault_count c.args.files.now) (g.F.Files.fault_count c.answer_of.new.files) (g.F.Files.last_failed c.answer_of.new.files))
+    before now faults faults_now (string_bytes c.in-Made.text) c.in-Made.status c.put_all-in-Made.result due puts)
 
 pub returns-in-Report-clause-serves : goal.returns-in-Report-clause-serves
 returns-in-Report-clause-serves g c =

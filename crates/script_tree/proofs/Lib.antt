@@ -1,0 +1,10 @@
+pub mod Ascii
+pub mod Goings
+pub mod Grouping
+pub mod Growth
+pub mod Indents
+pub mod Made
+pub mod Naming
+pub mod Numerals
+pub mod Spanning
+pub mod Texts

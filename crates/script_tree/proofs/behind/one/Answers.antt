@@ -1,0 +1,5 @@
+use Rattle.std.proofs.Common.{rules, []}
+use Rattle.script_tree.proofs.behind.one.Goals as goal
+
+pub returns-in_err-part : goal.returns-in_err-part
+returns-in_err-part g c = let e = c.in_err-part.ensures [] in search (e, rules)

@@ -1,0 +1,15 @@
+pub mod Canon
+pub mod Cause
+pub mod Forms
+pub mod Grammar
+pub mod Known
+pub mod Lines
+pub mod Names
+pub mod Parts
+pub mod Reading
+pub mod Slices
+pub mod Spelling
+pub mod Stand
+pub mod Tree
+pub mod Within
+pub mod Words

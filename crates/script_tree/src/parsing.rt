@@ -77,12 +77,7 @@ fn refusal_of_words(refusal: TokenRefusal) -> ParseRefusal
 }
 
 /// Reads the lines below the first one.
-fn read_lines(
-    alloc: Global,
-    text: &[u8],
-    tokens: &[Token],
-    end: u32,
-) -> Result<Parts, ParseRefusal>
+fn read_lines(alloc: Global, text: &[u8], tokens: &[Token], end: u32) -> Result<Parts, ParseRefusal>
     requires within { AreWithin text.now tokens.now }
     requires few { length tokens.now ≤ 16777217 }
     ensures program { IfOk result (λ p. rows_read start (rows_of text.now tokens.now) end ≡ Ok (tree_of_parts p)) }

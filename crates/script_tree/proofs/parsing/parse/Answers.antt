@@ -14,7 +14,8 @@ read_script-requires-clause-few c =
     rw c.deref.ensures.value (omega (arith, c.requires, apart_few 0 (length c.args.text.now) c.in-Ok.found.words.items (omega arith) c.in-Ok.ensures.apart))
 
 pub invariant_of-result : goal.invariant_of-result
-invariant_of-result c =
-    (c.args.text.now,
-      whole c.args.text.now c.in-Ok.found.words.items c.in-Ok.found.lines _ c.in-Ok.ensures.faultless c.in-Ok.ensures.rows c.in-Ok.ensures.count
-        (rw c.deref.ensures.value at c.in-Ok-read_script.ensures.program))
+invariant_of-result c = (
+  c.args.text.now,
+  whole c.args.text.now c.in-Ok.found.words.items c.in-Ok.found.lines _ c.in-Ok.ensures.faultless c.in-Ok.ensures.rows c.in-Ok.ensures.count
+      (rw c.deref.ensures.value at c.in-Ok-read_script.ensures.program),
+)

@@ -7,7 +7,6 @@ use Rattle.script_tree.specs.declared.refusal.ParseRefusal.{ParseRefusal}
 use Rattle.script_tree.specs.declared.refusal.ParseRefusal.TheVariants as parse_refusal
 use Rattle.script_tree.specs.Stand.{Denies}
 use Rattle.script_tree.specs.Grammar.{grammar}
-use Rattle.script_tree.specs.Tree.{Tree}
 use Rattle.pic_io.specs.Faults.{Rose}
 use Rattle.pic_io.specs.Held.{Held, Gives, IsLongerThan, holds}
 use Rattle.pic_machine.specs.declared.world.Start.{Start}

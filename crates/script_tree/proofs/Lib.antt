@@ -6,5 +6,6 @@ pub mod Indents
 pub mod Made
 pub mod Naming
 pub mod Numerals
+pub mod Paths
 pub mod Spanning
 pub mod Texts

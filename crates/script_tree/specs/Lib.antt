@@ -11,5 +11,6 @@ pub mod Slices
 pub mod Spelling
 pub mod Stand
 pub mod Tree
+pub mod WellFormed
 pub mod Within
 pub mod Words

@@ -5,7 +5,8 @@ use Rattle.script_tree.specs.declared.opener.Opener.{Opener}
 use Rattle.script_tree.specs.declared.opener.Opener.TheVariants as opener
 use Rattle.script_tree.specs.declared.program.Stmt.{Stmt}
 use Rattle.script_tree.specs.declared.form.GroupForm.TheVariants as group_form
-use Rattle.script_tree.specs.Reading.{State, Frame, holds_statements, holds_events}
+use Rattle.script_tree.specs.Lines.{number_in, part_at}
+use Rattle.script_tree.specs.Reading.{State, Frame, holds_statements, holds_events, frame, outermost, inside}
 use Rattle.script_tree.proofs.Moves.{Moves, declares, begins_fiber, begins_main, states, adds_leaf, opens, opens_select, opens_group, begins_else, begins_catch, ends_text, ends_block, ends_select, ends_group, opens_block, IsBlock, a_block, IsSelect, a_select, IsGroup, a_group, Ends, a_text, the_main}
 use Rattle.script_tree.proofs.Moving.{moves}
 use Rattle.script_tree.proofs.Pathways.{path_nested}
@@ -66,15 +67,15 @@ group_descend s o bound place places (a_group group_form.Guard parts p) d = d
 
 pub moves_descend : (s : State) {t : State} → Moves s t → BlocksDescend s → BlocksDescend t
 moves_descend s (declares f parts p h full) d = d
-moves_descend s (begins_fiber parts p h full) d = new_descend s.blocks _ (s.top ∷ s.outer) refl d
-moves_descend s (begins_main h) d = new_descend s.blocks _ (s.top ∷ s.outer) refl d
+moves_descend s (begins_fiber parts p h full) d = new_descend s.blocks (frame opener.Text (length s.blocks) outermost) (s.top ∷ s.outer) refl d
+moves_descend s (begins_main h) d = new_descend s.blocks (frame opener.Main (length s.blocks) outermost) (s.top ∷ s.outer) refl d
 moves_descend s (states x p h full) d = d
 moves_descend s (adds_leaf f parts p h) d = d
-moves_descend s (opens o p h full) d = new_descend s.blocks _ (s.top ∷ s.outer) refl d
+moves_descend s (opens o p h full) d = new_descend s.blocks (frame o (length s.blocks) (inside s.top.level o)) (s.top ∷ s.outer) refl d
 moves_descend s (opens_select o p h full) d = select_descend s o (length s.blocks) 0 (open_blocks (s.top ∷ s.outer)) p d
 moves_descend s (opens_group o p h) d = group_descend s o (length s.blocks) (length s.events) (open_blocks (s.top ∷ s.outer)) p d
-moves_descend s (begins_else l q r is) d = part_descend s _ d
-moves_descend s (begins_catch parts p is) d = part_descend s _ d
+moves_descend s (begins_else l q r is) d = part_descend s (opener.Otherwise l q r s.top.place) d
+moves_descend s (begins_catch parts p is) d = part_descend s (opener.Catch s.top.place (number_in (part_at parts 0))) d
 moves_descend s (ends_text f behind e h ends) d = behind_descend s.top.what behind _ f ends
 moves_descend s (ends_block f fs x e h becomes) d = rw length-set (end_descend s f fs e d)
 moves_descend s (ends_select f fs number value e h is) d = end_descend s f fs e d

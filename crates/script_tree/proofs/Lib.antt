@@ -1,6 +1,5 @@
 pub mod Ascii
 pub mod Descending
-pub mod Fitting
 pub mod Goings
 pub mod Grouping
 pub mod Growth
@@ -15,7 +14,5 @@ pub mod Numerals
 pub mod Paths
 pub mod Pathways
 pub mod Readings
-pub mod Rebuilding
 pub mod Spanning
-pub mod StatementsFit
 pub mod Texts

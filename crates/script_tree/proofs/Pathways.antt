@@ -110,9 +110,9 @@ began_bare s t lines path (ends_group f fs e is h groups) b = absurd (holder_of_
 -- ---- states that are reached
 
 pub path_nested : (s : State) (lines : List (List (List ℕ))) → Path s lines → IsNested s
-path_nested s lines begin = refl
-path_nested s lines (more {s = before} {words = words} l path taken bare) =
-    let n = path_nested before _ path in moves_nested before s (moves before s words l taken bare n) n
+path_nested s ls begin = refl
+path_nested s ls (more {s = before} {words = words} l path taken bare) =
+    let n = path_nested before _ path in moves_nested before (moves before s words l taken bare n) n
 
 -- there is a path to the state, and an empty `else` part began with the line before
 pub record Reached (s : State) : Type 0 where

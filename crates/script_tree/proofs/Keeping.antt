@@ -1,0 +1,69 @@
+-- Moves keep what stands in what.
+use Rattle.std.proofs.Common.{◌≡◌, ℕ, ◌∙◌, Bool, true, false, List, [], ◌∷◌, refl, sym, ap, subst}
+use Rattle.std.proofs.lemmas.Bool.{false≢true}
+use Rattle.script_tree.specs.declared.form.GroupForm.TheVariants as group_form
+use Rattle.script_tree.specs.declared.opener.Opener.{Opener}
+use Rattle.script_tree.specs.declared.opener.Opener.TheVariants as opener
+use Rattle.script_tree.specs.Reading.{State, Frame, is_head, holds_statements, holds_events}
+use Rattle.script_tree.proofs.Moves.{Moves, declares, begins_fiber, begins_main, states, adds_leaf, opens, opens_select, opens_group, begins_else, begins_catch, ends_text, ends_block, ends_select, ends_group, takes_texts, opens_block, IsBlock, a_block, IsSelect, a_select, IsGroup, a_group, Ends, a_text, the_main}
+use Rattle.script_tree.proofs.Nesting.{is_file, stands_in, Nested, IsNested}
+
+text_file : (o : Opener) → takes_texts o ≡ true → is_file o ≡ true
+text_file opener.Head h = refl
+text_file opener.Between h = refl
+text_file _ h = absurd (false≢true h)
+
+opens_in : (o around : Opener) → opens_block o ≡ true → stands_in o around ≡ holds_statements around
+opens_in (opener.Then l t r) around h = refl
+opens_in opener.Loop around h = refl
+opens_in opener.Try around h = refl
+opens_in opener.Forbid around h = refl
+opens_in opener.Permit around h = refl
+opens_in (opener.Under c) around h = refl
+opens_in (opener.Link a b) around h = refl
+opens_in (opener.Protect m) around h = refl
+opens_in opener.Bundle around h = refl
+opens_in opener.Flock around h = refl
+opens_in _ around h = absurd (false≢true h)
+
+block_in : (s : State) (o around : Opener) → IsBlock s o → stands_in o around ≡ holds_statements around
+block_in s o around (a_block f parts p is) = opens_in o around is
+
+select_in : (s : State) (o around : Opener) → IsSelect s o → stands_in o around ≡ holds_statements around
+select_in s o around (a_select n v f parts p is) = refl
+
+group_in : (s : State) (o around : Opener) → IsGroup s o → stands_in o around ≡ holds_events around
+group_in s o around (a_group group_form.Choose parts p) = refl
+group_in s o around (a_group group_form.Wrap parts p) = refl
+group_in s o around (a_group group_form.Guard parts p) = refl
+
+-- another part of a block stands where the first one stood
+part_in : (old new : Opener) (fs : List Frame) → is_file old ≡ false → ((around : Opener) → stands_in old around ≡ stands_in new around)
+    → Nested old fs → Nested new fs
+part_in old new [] no_file same n = absurd (false≢true (sym no_file ∙ n))
+part_in old new (f ∷ fs) no_file same n = (sym (same f.what) ∙ n.0, n.1)
+
+behind_file : (o behind : Opener) → Ends o behind → is_file behind ≡ true
+behind_file o behind a_text = refl
+behind_file o behind the_main = refl
+
+-- what is around what is open stands as before
+inner : (o : Opener) (f : Frame) (fs outer : List Frame) → outer ≡ f ∷ fs → Nested o outer → Nested f.what fs
+inner o f fs outer e n = let m : Nested o (f ∷ fs) = subst (λ gs. Nested o gs) e n in m.1
+
+pub moves_nested : (s : State) {t : State} → Moves s t → IsNested s → IsNested t
+moves_nested s (declares f parts p h full) n = n
+moves_nested s (begins_fiber parts p h full) n = (text_file s.top.what h, n)
+moves_nested s (begins_main h) n = (text_file s.top.what h, n)
+moves_nested s (states x p h full) n = n
+moves_nested s (adds_leaf f parts p h) n = n
+moves_nested s (opens o p h full) n = (block_in s o s.top.what p ∙ h, n)
+moves_nested s (opens_select o p h full) n = (select_in s o s.top.what p ∙ h, n)
+moves_nested s (opens_group o p h) n = (group_in s o s.top.what p ∙ h, n)
+moves_nested s (begins_else l q r is) n =
+    part_in (opener.Then l q r) (opener.Otherwise l q r s.top.place) s.outer refl (λ around. refl) (subst (λ o. Nested o s.outer) is n)
+moves_nested s (begins_catch parts p is) n = part_in opener.Try (opener.Catch s.top.place _) s.outer refl (λ around. refl) (subst (λ o. Nested o s.outer) is n)
+moves_nested s (ends_text f behind e h ends) n = behind_file s.top.what behind ends
+moves_nested s (ends_block f fs x e h becomes) n = inner s.top.what f fs s.outer e n
+moves_nested s (ends_select f fs number value e h is) n = inner s.top.what f fs s.outer e n
+moves_nested s (ends_group f fs x e h groups) n = inner s.top.what f fs s.outer e n

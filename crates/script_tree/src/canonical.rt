@@ -1,5 +1,6 @@
-ghost use Rattle.std.specs.Prelude.{◌≡◌, ◌++◌, ◌∷◌, [], OnOk, IfOk, List, string_bytes, flat_map};
+ghost use Rattle.std.specs.Prelude.{◌≡◌, ◌++◌, ◌∷◌, [], Ok, OnOk, IfOk, List, string_bytes, flat_map};
 ghost use Rattle.script_tree.specs.Canon.{decl_text, text_line, text_text, texts_text, canon};
+ghost use Rattle.script_tree.specs.Grammar.{grammar};
 
 use crate::bracket::write_ending;
 use crate::form::{DeclForm, Form};
@@ -84,9 +85,11 @@ fn write_texts(program: &Program, texts: &[Text], out: &mut String) -> Result<()
 }
 
 /// The canonical text of a program: no comments, no blank lines, two blanks of indent per open
-/// block or text, single blanks, each line ended. Want of memory alone is refused.
+/// block or text, single blanks, each line ended. It is read again as the same program. Want of
+/// memory alone is refused.
 pub fn show(alloc: Global, program: &Program) -> Result<String, Memory>
-    ensures { IfOk result (λ text. string_bytes text ≡ canon program.now) }
+    ensures text { IfOk result (λ text. string_bytes text ≡ canon program.now) }
+    ensures again { IfOk result (λ text. grammar (string_bytes text) ≡ Ok program.now) }
 {
     let mut out = String::from_str(alloc, "picos 1\n")?;
     write_declarations(program, &mut out)?;

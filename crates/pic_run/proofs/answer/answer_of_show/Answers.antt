@@ -14,4 +14,4 @@ returns-in-Err-Refused c =
 
 pub returns-in_ok-show-in-Ok : goal.returns-in_ok-show-in-Ok
 returns-in_ok-show-in-Ok c = λ script.
-    subst (λ (text : List ℕ). Answers c.args.bytes.now (show script) text Done) (sym c.in_ok-show-in-Ok.ensures) (shown c.in-Ok.program c.in-Ok.ensures.program)
+    subst (λ (text : List ℕ). Answers c.args.bytes.now (show script) text Done) (sym c.in_ok-show-in-Ok.ensures.text) (shown c.in-Ok.program c.in-Ok.ensures.program)

@@ -1,92 +1,11 @@
+//! Tests of `parse` and `show`.
 use super::*;
-use std::alloc::{AllocError, Global};
-use std::test::Fail;
+use std::alloc::Global;
 
-fn refusal(alloc: Global, text: &str) -> Option<ParseRefusal> {
-    if text.len() > 16777216 {
-        return None;
-    }
-    parse(alloc, text.as_bytes()).err()
-}
-
-#[test]
-fn each_cause_has_its_script(rt: HostRuntime) {
-    let table = [
-        ("", 1, 1),
-        ("picos 9\nmain\nend\n", 1, 1),
-        ("\n\n", 3, 1),
-        ("picos 1\nmain\njump\nend\n", 3, 2),
-        ("picos 1\nmain\nsay 007\nend\n", 3, 2),
-        ("picos 1\nmain\nbreak\nend\n", 3, 2),
-        ("picos 1\nmain\ntry\nend\nend\n", 4, 2),
-        ("picos 1\nmain", 3, 3),
-        ("picos 1\nmain\nsignal t\nend\n", 3, 4),
-        ("picos 1\ncomp a\nmutex a\nmain\nend\n", 3, 5),
-        ("picos 1\nsem root 5000000000\n", 2, 5),
-        ("picos 1\ncomp a\nmain\nlock a\nend\n", 4, 6),
-        ("picos 1\nmain\nunder main\nend\nend\n", 3, 6),
-        ("picos 1\nmain\nsay 4294967296\nend\n", 3, 7),
-        ("picos 1\nmain\nset r16 0\nend\n", 3, 8),
-        ("picos 1\nmain\nput 16 0\nend\n", 3, 8),
-        ("picos 1\nmain\nwait r1 p8\nend\n", 3, 8),
-        ("picos 1\ncomp a\n", 3, 11),
-        ("picos 1\nmain\nend\nend\n", 4, 12),
-        ("picos 1\n\u{7f}\nmain\nend\n", 2, 13),
-    ];
-    for (text, line, cause) in table {
-        let refused = ParseRefusal::Refused(Refused { line, cause });
-        assert_eq!(rt; refusal(rt.alloc(), text), Some(refused), "{text}");
-    }
-}
-
-/// A line over and over, between two others.
-fn repeated(alloc: Global, parts: (&str, &str, &str), times: usize) -> Result<String, AllocError> {
-    let mut text = String::from_str(alloc, parts.0)?;
-    for _ in 0..times {
-        text.push_str(parts.1)?;
-    }
-    text.push_str(parts.2)?;
-    Ok(text)
-}
-
-#[test]
-fn limits_are_met_and_not_passed(rt: HostRuntime) -> Result<(), Fail> {
-    let table = [
-        (
-            ("picos 1\nmain\n", "yield\n", "end\n"),
-            10_000,
-            10_002 + 1,
-            9,
-        ),
-        (("picos 1\nmain\n", "if r1 eq 0\n", ""), 32, 35, 10),
-        (("picos 1\nmain\n", "flock\n", ""), 8, 11, 10),
-        (
-            ("picos 1\nmain\nselect r1 r2\n", "on always 0\n", ""),
-            32,
-            36,
-            9,
-        ),
-        (("picos 1\n", "#", "\n"), 200, 2, 14),
-    ];
-    for (parts, most, line, cause) in table {
-        let over = repeated(rt.alloc(), parts, most + 1)?;
-        let refused = ParseRefusal::Refused(Refused { line, cause });
-        assert_eq!(rt; refusal(rt.alloc(), over.as_str()), Some(refused));
-        let met = repeated(rt.alloc(), parts, most)?;
-        assert_ne!(rt; refusal(rt.alloc(), met.as_str()), Some(refused));
-    }
-    Ok(())
-}
-
-#[test]
-fn a_script_is_shown_in_its_canonical_text(rt: HostRuntime) -> Result<(), Fail> {
-    let text = b"picos 1\n#c\nmain\n set  r1   5\nend";
-    let program = parse(rt.alloc(), text).ok().ok_or("refused")?;
-    let shown = show(rt.alloc(), &program)?;
-    assert_eq!(rt; shown.as_str(), "picos 1\nmain\n  set r1 5\nend\n");
-    assert_eq!(rt; most(&program), 4294967295);
-    Ok(())
-}
+mod changes;
+mod formatting;
+mod limits;
+mod refusals;
 
 /// A canonical script with each form of a line.
 const EVERY_FORM: &str = "picos 1
@@ -195,16 +114,30 @@ main
 end
 ";
 
-#[test]
-fn each_form_is_read_and_shown(rt: HostRuntime) -> Result<(), Fail> {
-    if EVERY_FORM.len() > 16777216 {
-        return Ok(());
+/// Reads a text. One that `parse` doesn't take is refused as no script is.
+fn read(alloc: Global, text: &[u8]) -> Result<Program, ParseRefusal> {
+    if text.len() > 16_777_216 {
+        return Err(refused(0, 0));
     }
-    let program = parse(rt.alloc(), EVERY_FORM.as_bytes())
-        .ok()
-        .ok_or("refused")?;
-    assert_eq!(rt; show(rt.alloc(), &program)?.as_str(), EVERY_FORM);
-    assert_eq!(rt; program.texts.len(), 2);
-    assert_eq!(rt; program.decls.len(), 8);
-    Ok(())
+    parse(alloc, text)
+}
+
+/// The canonical text of what a text is.
+fn shown(alloc: Global, text: &[u8]) -> Result<String, ParseRefusal> {
+    let program = read(alloc, text)?;
+    Ok(show(alloc, &program)?)
+}
+
+fn refused(line: u32, cause: u8) -> ParseRefusal {
+    ParseRefusal::Refused(Refused { line, cause })
+}
+
+/// How many lines a text has.
+fn count_lines(text: &[u8]) -> usize {
+    let ends = text.iter().filter(|byte| **byte == b'\n').count();
+    match text.last() {
+        Some(b'\n') => ends,
+        Some(_) => ends.saturating_add(1),
+        None => 0,
+    }
 }

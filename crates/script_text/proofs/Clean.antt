@@ -1,7 +1,6 @@
 -- A text whose bytes may all stand and whose lines are short has no fault.
-use Rattle.std.proofs.Common.{◌≡◌, ℕ, zero, suc, ◌+◌, ◌<◌, ◌≤◌, Bool, true, false, not, ◌&&◌, List, [], ◌∷◌, length, get_or, drop, None, refl, ap, sym, ◌∙◌, inl, inr, arith, one-add, add-one}
+use Rattle.std.proofs.Common.{◌≡◌, ℕ, zero, suc, ◌+◌, ◌<◌, ◌≤◌, Bool, true, false, not, ◌&&◌, List, [], ◌∷◌, length, get_or, drop, None, refl, inl, inr, arith, one-add, add-one}
 use Rattle.std.specs.List.{onto_first, position, prefix_len}
-use Rattle.std.specs.Prelude.{nat_lt}
 use Rattle.std.proofs.lemmas.Bool.{cases_Bool, le-ltb}
 use Rattle.script_text.specs.Faults.{first_fault, fault_from, line_fault}
 use Rattle.script_text.specs.Lines.{is_line_end, lines, may_stand}

@@ -1,12 +1,11 @@
 -- What stands at the front of a text, and how its spans go on behind that.
-use Rattle.std.proofs.Common.{◌≡◌, ℕ, zero, suc, ◌+◌, ◌<◌, ◌≤◌, Bool, true, false, not, List, [], ◌∷◌, ◌++◌, length, take, drop, Some, None, refl, ap, sym, ◌∙◌, inl, inr, arith, one-add, add-one, add-zero, get_or, ◌-◌, if◌then◌else◌, append_assoc, slice_get, take-add, length-drop, length-take-le}
+use Rattle.std.proofs.Common.{◌≡◌, ℕ, zero, suc, ◌+◌, ◌<◌, ◌≤◌, Bool, true, false, not, List, [], ◌∷◌, ◌++◌, length, take, drop, Some, refl, ap, sym, ◌∙◌, inl, inr, arith, one-add, add-zero, get_or, ◌-◌, if◌then◌else◌, append_assoc, slice_get, take-add, length-drop, length-take-le}
 use Rattle.std.specs.List.{onto_first, position_or_len, prefix_len}
 use Rattle.std.proofs.lemmas.Bool.{cases_Bool, eqb-true}
 use Rattle.std.proofs.lemmas.Option.{get_or_from_slice_get, slice_get_within}
 use Rattle.script_text.specs.Lines.{is_line_end, is_blank, begins_comment, lines}
-use Rattle.script_text.specs.Scan.{closing, line_spans, spans, class, is_space, is_word_byte, IsSpace, line_ends, is_open, IsPassed}
+use Rattle.script_text.specs.Scan.{closing, line_spans, spans, class, is_word_byte, IsSpace, line_ends, is_open, IsPassed}
 use Rattle.script_text.specs.declared.token.Token.{Token}
-use Rattle.script_text.specs.declared.word.Class.{Class}
 use Rattle.script_text.specs.declared.word.Class.TheVariants.{LineEnd, Blank, Comment, Word}
 
 comment_no_blank : (b : ℕ) → begins_comment b ≡ true → is_blank b ≡ false

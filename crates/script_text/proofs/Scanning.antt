@@ -1,5 +1,5 @@
 -- The walk over a text that seeks its first fault, line by line.
-use Rattle.std.proofs.Common.{◌≡◌, ℕ, ◌+◌, ◌-◌, ◌<◌, ◌≤◌, List, ◌∷◌, length, Some, None, sym, arith, length-drop}
+use Rattle.std.proofs.Common.{◌≡◌, ℕ, ◌+◌, ◌<◌, ◌≤◌, List, ◌∷◌, length, Some, None, sym, arith, length-drop}
 use Rattle.std.specs.List.{before_first, after_first}
 use Rattle.script_text.specs.Faults.{first_fault, fault_from, line_fault}
 use Rattle.script_text.specs.Lines.{is_line_end, lines}

@@ -1,9 +1,9 @@
 -- What a search for line ends finds.
-use Rattle.std.proofs.Common.{◌≡◌, ℕ, ◌+◌, ◌<◌, ◌≤◌, Bool, true, false, not, List, length, take, get_or, Option, Some, None, IfSome, inl, inr, arith, refl, ap, sym, ◌∙◌, subst, length-take-le, get_or-take}
+use Rattle.std.proofs.Common.{◌≡◌, ℕ, ◌<◌, ◌≤◌, Bool, true, false, not, List, length, take, get_or, Option, Some, None, IfSome, inl, inr, arith, refl, ap, sym, ◌∙◌, length-take-le, get_or-take}
 use Rattle.std.specs.List.{position_or_len}
-use Rattle.std.proofs.lemmas.Bool.{cases_Bool, cases_lt}
+use Rattle.std.proofs.lemmas.Bool.{cases_lt}
 use Rattle.std.proofs.lemmas.List.Sums.{prefix_len_passes, prefix_len_stops, prefix_len-le-length}
-use Rattle.memchr.specs.Find.{IsLastByte, IsFirstByte, NoneBefore, NoneAfter, Nowhere, Passes, is_byte}
+use Rattle.memchr.specs.Find.{IsLastByte, NoneBefore, Nowhere, Passes, is_byte}
 use Rattle.script_text.specs.Lines.{is_line_end}
 
 opposite : (x : Bool) → not x ≡ false → x ≡ true

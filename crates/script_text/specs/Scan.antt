@@ -1,6 +1,6 @@
 -- The spans of words by one walk over the bytes. What they are worth is said in `Spans`; this is
 -- the meeting point of the code and of those facts.
-use Rattle.std.specs.Prelude.{ℕ, ◌≡◌, ◌+◌, ◌<◌, ◌≤◌, Bool, true, false, not, ◌||◌, ◌&&◌, Option, Some, None, List, [], ◌∷◌, ◌++◌, length, drop, if◌then◌else◌}
+use Rattle.std.specs.Prelude.{ℕ, ◌≡◌, ◌+◌, ◌≤◌, Bool, true, false, not, ◌||◌, ◌&&◌, Option, Some, None, List, [], ◌∷◌, ◌++◌, length, drop, if◌then◌else◌}
 use Rattle.script_text.specs.Lines.{is_line_end, is_blank, begins_comment, may_stand, lines}
 use Rattle.script_text.specs.declared.word.Class.{Class}
 use Rattle.script_text.specs.declared.word.Class.TheVariants.{LineEnd, Blank, Comment, Word}

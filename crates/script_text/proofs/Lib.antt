@@ -1,6 +1,9 @@
 pub mod Apart
+pub mod Clean
 pub mod Cover
 pub mod Cuts
 pub mod Grouped
 pub mod Laws
+pub mod Passing
 pub mod Scanning
+pub mod Sought

@@ -6,6 +6,7 @@
 //! line (`first_fault` of `specs/Faults.antt`).
 #![tactic(auto)]
 
+mod fault;
 mod line;
 mod scan;
 mod token;

@@ -4,24 +4,23 @@ ghost use Rattle.script_text.specs.Faults.{line_fault};
 ghost use Rattle.script_text.specs.Lines.{is_line_end, may_stand as may_stand_in};
 
 use crate::token::TokenRefusal;
+use memchr::memchr;
 
 /// The byte that ends a line.
-const LINE_END: u8 = b'\n';
+pub const LINE_END: u8 = b'\n';
 
 /// How many bytes a line may have, without its end.
-const LINE_LIMIT: usize = 200;
+pub const LINE_LIMIT: usize = 200;
 
 /// How many bytes the first line of a text has, without its end.
-fn line_len(text: &[u8]) -> usize
+pub fn line_len(text: &[u8]) -> usize
     ensures end { result ≡ position_or_len is_line_end text.now }
     ensures within { result ≤ length text.now }
 {
-    for (place, byte) in text.iter().enumerate() {
-        if *byte == LINE_END {
-            return place;
-        }
+    match memchr(LINE_END, text) {
+        Some(place) => place,
+        None => text.len(),
     }
-    text.len()
 }
 
 /// The first line of a text, without its end, and what stands below it.
@@ -36,7 +35,7 @@ pub fn split_line(text: &[u8]) -> (&[u8], &[u8])
 }
 
 /// Whether a byte may stand in a line: a tab, a carriage return, or printable ASCII.
-fn may_stand(byte: u8) -> bool
+pub fn may_stand(byte: u8) -> bool
     ensures { result ≡ may_stand_in byte }
 {
     byte == 9 || byte == 13 || (byte >= 32 && byte <= 126)

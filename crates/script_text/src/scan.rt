@@ -4,12 +4,12 @@ ghost use Rattle.script_text.specs.Lines.{lines, rows};
 ghost use Rattle.script_text.specs.Scan.{spans};
 ghost use Rattle.script_text.specs.Spans.{AreApart, Covers, IsWordByte, rows_of};
 
-use crate::line::{check_line, split_line};
+use crate::fault::check_text;
 use crate::token::{TokenRefusal, Tokens};
-use crate::word::add_words;
+use crate::word::words_of;
 use std::alloc::Global;
 
-/// The words of a text, by one walk over its bytes.
+/// The words of a text that has no fault.
 fn scan(alloc: Global, text: &[u8]) -> Result<Tokens, TokenRefusal>
     requires { length text.now ≤ 16777216 }
     ensures words { IfOk result (λ t. t.words.items ≡ spans 1 0 (lines text.now)) }
@@ -17,24 +17,11 @@ fn scan(alloc: Global, text: &[u8]) -> Result<Tokens, TokenRefusal>
     ensures faultless { OnOk result (first_fault text.now ≡ None) }
     ensures refused { IfErr result (λ e. e ≢ TokenRefusal.Memory → first_fault text.now ≡ Some e) }
 {
-    let mut words = Vec::new(alloc);
-    let mut number = 0;
-    let mut start = 0;
-    let mut rest = text;
-    while !rest.is_empty() {
-        let (line, below) = split_line(rest);
-        number += 1;
-        check_line(line, number)?;
-        if add_words(&mut words, line, start, number).is_err() {
-            return Err(TokenRefusal::Memory);
-        }
-        start += line.len() as u32 + 1;
-        rest = below;
+    check_text(text)?;
+    match words_of(alloc, text) {
+        Ok(found) => Ok(found),
+        Err(_e) => Err(TokenRefusal::Memory),
     }
-    Ok(Tokens {
-        words,
-        lines: number,
-    })
 }
 
 /// The words of a text of at most 16,777,216 bytes: the longest runs of bytes that are neither

@@ -1,6 +1,7 @@
 -- From what a call had to write, and how its writing ended, to each promise of the top call.
 use Rattle.std.proofs.Common.{◌≡◌, ◌≢◌, ℕ, ◌<◌, ◌≤◌, ◌⊎◌, inl, inr, Option, Some, None, List, [], length, Result, Ok, Err, codes, refl, sym, ap, subst, ◌∙◌, arith}
 use Rattle.std.specs.List.{flat_map}
+use Rattle.std.proofs.lemmas.Bool.{false≢true}
 use Rattle.std.specs.Io.KnownBytes.{Appends}
 use Rattle.script_tree.specs.declared.refusal.Refused.{Refused as Refusal}
 use Rattle.script_tree.specs.declared.refusal.ParseRefusal.{ParseRefusal}
@@ -18,12 +19,12 @@ use Rattle.pic_run.specs.declared.output.WriteRefusal.TheVariants as refusal
 use Rattle.pic_run.specs.declared.status.Status.{Status}
 use Rattle.pic_run.specs.declared.status.Status.TheVariants.{Done, Usage, Refused, ReadFault, WriteFault, OutOfMemory, TooLarge}
 use Rattle.pic_run.specs.declared.limits.TheConstants.{MOST_BYTES}
-use Rattle.pic_run.specs.Script.{Script}
-use Rattle.pic_run.specs.Grammar.{IsScript}
+use Rattle.script_tree.specs.Tree.{Tree}
 use Rattle.pic_run.specs.Run.{IsRunOf, origin, start_of}
-use Rattle.pic_run.specs.Report.{report, report_lines}
+use Rattle.pic_run.specs.Report.{declared_names, report, report_lines}
 use Rattle.pic_run.specs.Request.{Command, run, check, show, script_of, request}
-use Rattle.pic_run.specs.Refusal.{IsRefused, IsServed, refusal_text}
+use Rattle.pic_run.specs.Refusal.{Accepts, IsRefused, no_script, not_served, IsServed, refusal_text, unserved}
+use Rattle.pic_run.specs.Served.{is_served}
 use Rattle.pic_run.specs.Status.{MainReturned}
 use Rattle.pic_run.specs.Output.{AppendsFront, Puts}
 use Rattle.pic_run.specs.Past.{Past, world_of}
@@ -33,14 +34,14 @@ use Rattle.pic_run.specs.Headline.{CheckedBy, Headline, RefusedBy, ReadFaultBy, 
 
 -- ---- the answer of a script's bytes
 
-pub answers_ran : (bytes script input : List ℕ) (s : Script) (past : Past) (lines : List (List ℕ)) → IsScript bytes s → past.start ≡ start_of s → IsRunOf s past.history → MainReturned (world (origin s) past.history)
-    → lines ≡ report_lines s.comps past.history (world_of past) → Answers bytes (run script input) (flat_map (λ line. line) lines) Done
-answers_ran bytes script input s past lines reads start is returned lines_are =
-    let same : flat_map (λ line. line) lines ≡ report s past.history =
-    ap (λ (ls : List (List ℕ)). flat_map (λ line. line) ls) (lines_are ∙ ap (λ (b : Start). report_lines s.comps past.history (world (origin_of b) past.history)) start) in
-    subst (λ (text : List ℕ). Answers bytes (run script input) text Done) (sym same) (ran s past.history reads is returned)
+pub answers_ran : (bytes script input : List ℕ) (tree : Tree) (past : Past) (lines : List (List ℕ)) → grammar bytes ≡ Ok tree → Accepts (run script input) tree → past.start ≡ start_of tree → IsRunOf tree past.history
+    → MainReturned (world (origin tree) past.history) → lines ≡ report_lines (declared_names tree) past.history (world_of past) → Answers bytes (run script input) (flat_map (λ line. line) lines) Done
+answers_ran bytes script input tree past lines reads accepts start is returned lines_are =
+    let same : flat_map (λ line. line) lines ≡ report tree past.history =
+    ap (λ (ls : List (List ℕ)). flat_map (λ line. line) ls) (lines_are ∙ ap (λ (b : Start). report_lines (declared_names tree) past.history (world (origin_of b) past.history)) start) in
+    subst (λ (text : List ℕ). Answers bytes (run script input) text Done) (sym same) (ran tree past.history reads accepts is returned)
 
-pub answers_told : (bytes : List ℕ) (command : Command) (r : Refusal) (made : Answer) → IsRefused command bytes r → Tells made r → Answers bytes command (answer_text made) (answer_status made)
+pub answers_told : (bytes : List ℕ) (command : Command) (r : Refusal) (made : Answer) → IsRefused bytes command r → Tells made r → Answers bytes command (answer_text made) (answer_status made)
 answers_told bytes command r made cause tells =
     subst (λ (text : List ℕ). Answers bytes command text (answer_status made)) (sym tells.text)
     (subst (λ (status : Status). Answers bytes command (refusal_text r) status) (sym tells.status) (refused r cause))
@@ -52,38 +53,42 @@ denied bytes e r denies is = subst (λ (d : ParseRefusal). Denies d (grammar byt
 -- an answer is what was asked for, or a refusal
 answers_status : {bytes text : List ℕ} {command : Command} {status : Status} → Answers bytes command text status → (status ≡ Done) ⊎ (status ≡ Refused)
 answers_status (refused r cause) = inr refl
-answers_status (ran s history reads is ended) = inl refl
+answers_status (ran tree history reads accepts is ended) = inl refl
 answers_status (checked tree reads) = inl refl
-answers_status (shown tree reads) = inl refl
+answers_status (shown tree reads again) = inl refl
 
 other : {status : Status} {A : Type 0} → (status ≡ Done) ⊎ (status ≡ Refused) → (status ≢ Done) → (status ≢ Refused) → A
 other (inl done) not_done not_refused = absurd (not_done done)
 other (inr is) not_done not_refused = absurd (not_refused is)
 
 -- what is refused is not served
-served_none : (command : Command) (bytes : List ℕ) (r : Refusal) → IsRefused command bytes r → IsServed command bytes → ⊥
-served_none (run script input) bytes r cause served = cause.0 served.0 served.1
-served_none (check script) bytes r cause served = let both : Ok served.0 ≡ Err r = sym served.1 ∙ cause in cc
-served_none (show script) bytes r cause served = let both : Ok served.0 ≡ Err r = sym served.1 ∙ cause in cc
+same_tree : (bytes : List ℕ) (a b : Tree) → grammar bytes ≡ Ok a → grammar bytes ≡ Ok b → a ≡ b
+same_tree bytes a b p q = let both : Ok a ≡ Ok b = sym p ∙ q in cc
+
+served_none : {bytes : List ℕ} {command : Command} {r : Refusal} → IsRefused bytes command r → IsServed command bytes → ⊥
+served_none (no_script {r = r} first) served = let both : Ok served.tree ≡ Err r = sym served.reads ∙ first in cc
+served_none {bytes} (not_served tree reads unserved_tree) served =
+    let same : served.tree ≡ tree = same_tree bytes served.tree tree served.reads reads in
+    false≢true (sym unserved_tree ∙ (ap is_served (sym same) ∙ served.accepts))
 
 -- an answer that is no refusal serves the command
 answers_served : {bytes text : List ℕ} {command : Command} {status : Status} → Answers bytes command text status → status ≢ Refused → IsServed command bytes
 answers_served (refused r cause) not_refused = absurd (not_refused refl)
-answers_served (ran s history reads is ended) not_refused = (s, reads)
-answers_served (checked tree reads) not_refused = (tree, reads)
-answers_served (shown tree reads) not_refused = (tree, reads)
+answers_served (ran tree history reads accepts is ended) not_refused = record { tree = tree; reads = reads; accepts = accepts }
+answers_served (checked tree reads) not_refused = record { tree = tree; reads = reads; accepts = tt }
+answers_served (shown tree reads again) not_refused = record { tree = tree; reads = reads; accepts = tt }
 
 answers_done : {bytes text : List ℕ} {command : Command} {status : Status} → Answers bytes command text status → IsServed command bytes → status ≡ Done
-answers_done {bytes} {command = command} (refused r cause) served = absurd (served_none command bytes r cause served)
-answers_done (ran s history reads is ended) served = refl
+answers_done (refused r cause) served = absurd (served_none cause served)
+answers_done (ran tree history reads accepts is ended) served = refl
 answers_done (checked tree reads) served = refl
-answers_done (shown tree reads) served = refl
+answers_done (shown tree reads again) served = refl
 
 answers_refused : {bytes text : List ℕ} {command : Command} {status : Status} → Answers bytes command text status → (IsServed command bytes → ⊥) → status ≡ Refused
 answers_refused (refused r cause) none = refl
-answers_refused (ran s history reads is ended) none = absurd (none (s, reads))
-answers_refused (checked tree reads) none = absurd (none (tree, reads))
-answers_refused (shown tree reads) none = absurd (none (tree, reads))
+answers_refused (ran tree history reads accepts is ended) none = absurd (none (record { tree = tree; reads = reads; accepts = accepts }))
+answers_refused (checked tree reads) none = absurd (none (record { tree = tree; reads = reads; accepts = tt }))
+answers_refused (shown tree reads again) none = absurd (none (record { tree = tree; reads = reads; accepts = tt }))
 
 -- ---- how the writing ended
 
@@ -131,11 +136,12 @@ module _ (asked : Asked) (before now : Option (List ℕ)) (faults faults_now : �
 
   headline_of : {bytes text script input : List ℕ} {status : Status} → Answers bytes (run script input) text status → Gives (asked.held script) bytes → Appends before now text → status ≡ Done → Headline (asked.held script) before now status
   headline_of (refused r cause) given appends is = absurd cc
-  headline_of {bytes} (ran s history reads is_run ended) given appends is = record {
+  headline_of {bytes} (ran tree history reads accepts is_run ended) given appends is = record {
     bytes = bytes;
     given = given;
-    script = s;
+    script = tree;
     reads = reads;
+    served = accepts;
     history = history;
     legal = is_run.legal;
     follows = is_run.follows;
@@ -151,14 +157,14 @@ module _ (asked : Asked) (before now : Option (List ℕ)) (faults faults_now : �
 
   shown_of : {bytes text script : List ℕ} {status : Status} → Answers bytes (show script) text status → Gives (asked.held script) bytes → Appends before now text → status ≡ Done → ShownBy (asked.held script) before now
   shown_of (refused r cause) given appends is = absurd cc
-  shown_of {bytes} (shown tree reads) given appends is = record { bytes = bytes; given = given; tree = tree; reads = reads; written = appends }
+  shown_of {bytes} (shown tree reads again) given appends is = record { bytes = bytes; given = given; tree = tree; reads = reads; written = appends; again = again }
 
   refused_of : {bytes text : List ℕ} {command : Command} {status : Status} → Answers bytes command text status → request asked.words ≡ Some command → Gives (asked.held (script_of command)) bytes → Appends before now text → status ≡ Refused
       → RefusedBy asked.words asked.held before now
   refused_of {bytes} {command = command} (refused r cause) asks given appends is = record { command = command; asks = asks; bytes = bytes; given = given; refusal = r; cause = cause; written = appends }
-  refused_of (ran s history reads is_run ended) asks given appends is = absurd cc
+  refused_of (ran tree history reads accepts is_run ended) asks given appends is = absurd cc
   refused_of (checked tree reads) asks given appends is = absurd cc
-  refused_of (shown tree reads) asks given appends is = absurd cc
+  refused_of (shown tree reads again) asks given appends is = absurd cc
 
   due_headline : {text : List ℕ} {status : Status} → Due asked text status → Appends before now text → status ≡ Done → (script input : List ℕ) → request asked.words ≡ Some (run script input) → Headline (asked.held script) before now status
   due_headline (usage none) appends is script input asks = absurd cc

@@ -1,13 +1,5 @@
-pub mod Bools
-pub mod Words
-pub mod Spelled
-pub mod Cuts
-pub mod Places
-pub mod Statements
-pub mod Lines
-pub mod Reading
-pub mod Parsing
 pub mod Running
+pub mod Serving
 pub mod Whole
 pub mod Reports
 pub mod Writing

@@ -1,5 +1,5 @@
 -- One entry of main after another: what each statement adds to the history.
-use Rattle.std.proofs.Common.{◌≡◌, ℕ, false, [], ◌∷◌, ◌++◌, length, Option, Some, None, slice_get, refl, sym, ap, subst, ◌∙◌, append-nil}
+use Rattle.std.proofs.Common.{◌≡◌, ℕ, ◌<◌, ◌^◌, false, [], ◌∷◌, ◌++◌, length, Option, Some, None, slice_get, refl, sym, ap, subst, ◌∙◌, arith, append-nil}
 use Rattle.std.proofs.lemmas.List.{length-set}
 use Rattle.pic_base.specs.declared.outcome.Outcome.{Outcome}
 use Rattle.pic_base.specs.declared.outcome.Outcome.TheVariants.{Returned, Cancelled}
@@ -18,12 +18,13 @@ use Rattle.pic_machine.specs.History.{event, origin_of}
 use Rattle.pic_machine.specs.Log.{is_turn}
 use Rattle.pic_machine.specs.Order.{stops}
 use Rattle.pic_machine.proofs.Histories.{IsLegal-push, world-push}
-use Rattle.pic_run.specs.declared.program.Operand.{Operand}
-use Rattle.pic_run.specs.declared.program.CompRef.{CompRef}
-use Rattle.pic_run.specs.declared.program.Stmt.{Stmt}
-use Rattle.pic_run.specs.declared.program.Stmt.TheVariants.{Set, Say, Return, Cancel, Peek}
+use Rattle.script_tree.specs.declared.program.Operand.{Operand}
+use Rattle.script_tree.specs.declared.program.CompRef.{CompRef}
+use Rattle.script_tree.specs.declared.program.CompRef.TheVariants.{Root, Named, Promise}
+use Rattle.script_tree.specs.declared.program.Stmt.{Stmt}
+use Rattle.script_tree.specs.declared.program.Stmt.TheVariants.{Set, Say, Return, Cancel, Peek}
 use Rattle.pic_run.specs.Meaning.{Context, Does, set_next, say_next, return_next, cancel_next, peek_next, next, comp_number, value_of, with_register, state_number, outcome_number}
-use Rattle.pic_run.specs.Past.{Past, world_of, IsKept, Adds, Completes, Did, won_of, seen_of}
+use Rattle.pic_run.specs.Past.{Past, world_of, IsKept, IsOneOf, Adds, Completes, Did, won_of, seen_of}
 
 pub pair : {A B : Type 0} {a a' : A} {b b' : B} → a ≡ a' → b ≡ b' → ◌≡◌ {A = A × B} (a, b) (a', b')
 pair p q = λ i. (p i, q i)
@@ -82,18 +83,28 @@ peeked_is (Some (Done o)) = (Some o, refl)
 
 -- ---- statements
 
+-- the number of a computation is one of so many, and fits a word
+pub IsOneOf_small : (comps : ℕ) (c : CompRef) → IsOneOf comps c → comps < 2 ^ 32 → IsOneOf (2 ^ 32) c
+IsOneOf_small comps Root one small = omega arith
+IsOneOf_small comps (Named place) one small = omega (arith, one)
+IsOneOf_small comps (Promise register) one small = one
+
+pub IsOneOf_number : (comps k : ℕ) (c : CompRef) → IsOneOf comps c → comp_number c ≡ Some k → k < comps
+IsOneOf_number comps k c one is = rw is at one
+
 pub completes : (old new : Past) (before now : Context) (register : ℕ) (comp : CompRef) (k : ℕ) (outcome : Outcome) (reply : Reply)
-    → k ≡ comp_number comp → reply ≡ reply_of (world_of old) 1 (call.Complete k outcome) → new ≡ longer old (event 1 (call.Complete k outcome) reply)
+    → comp_number comp ≡ Some k → reply ≡ reply_of (world_of old) 1 (call.Complete k outcome) → new ≡ longer old (event 1 (call.Complete k outcome) reply)
     → now ≡ with_register before register (won_of reply) → Completes old new before now register comp outcome
 completes old new before now register comp k outcome reply number answers is told =
     let w = world_of old in
     let shape = completed_is (slice_get w.comps k) in
     let reply_is : reply ≡ Completed shape.0 = answers ∙ shape.1 in
-    let here : new ≡ longer old (event 1 (call.Complete (comp_number comp) outcome) (Completed shape.0)) = is ∙ ap (λ (p : ℕ × Reply). longer old (event 1 (call.Complete p.0 outcome) p.1)) (pair number reply_is) in
+    let here : new ≡ longer old (event 1 (call.Complete k outcome) (Completed shape.0)) = is ∙ ap (λ (r : Reply). longer old (event 1 (call.Complete k outcome) r)) reply_is in
     record {
       reply = shape.0;
-      adds = adds old new 1 (call.Complete (comp_number comp) outcome) (Completed shape.0) here
-          (outcome_fibers w (comp_number comp) outcome (slice_get w.comps (comp_number comp))) (outcome_comps w (comp_number comp) outcome (slice_get w.comps (comp_number comp)));
+      number = k;
+      is = number;
+      adds = adds old new 1 (call.Complete k outcome) (Completed shape.0) here (outcome_fibers w k outcome (slice_get w.comps k)) (outcome_comps w k outcome (slice_get w.comps k));
       told = told ∙ ap (λ (r : Reply). with_register before register (won_of r)) reply_is;
     }
 
@@ -131,22 +142,24 @@ did_say old new v before value reply number answers is =
 
 pub did_return : (old new : Past) (r : ℕ) (a : CompRef) (v : Operand) (before now : Context) (outcome : Outcome) → outcome ≡ Returned (value_of before v) → Completes old new before now r a outcome → Did old new (Return r a v) before now
 did_return old new r a v before now outcome is completes =
-    let adds = subst (λ (o : Outcome). Adds old new (event 1 (call.Complete (comp_number a) o) (Completed completes.reply))) is completes.adds in
-    did_one old new (Return r a v) before now (call.Complete (comp_number a) (Returned (value_of before v))) (Completed completes.reply) adds
-    (subst (λ (d : Context). Does 1 (Return r a v) before (event 1 (call.Complete (comp_number a) (Returned (value_of before v))) (Completed completes.reply) ∷ []) next d) (sym completes.told) (return_next completes.reply)) refl refl
+    let k = completes.number in
+    let adds = subst (λ (o : Outcome). Adds old new (event 1 (call.Complete k o) (Completed completes.reply))) is completes.adds in
+    did_one old new (Return r a v) before now (call.Complete k (Returned (value_of before v))) (Completed completes.reply) adds
+    (subst (λ (d : Context). Does 1 (Return r a v) before (event 1 (call.Complete k (Returned (value_of before v))) (Completed completes.reply) ∷ []) next d) (sym completes.told) (return_next completes.reply completes.is)) refl refl
 
 pub did_cancel : (old new : Past) (r : ℕ) (a : CompRef) (v : Operand) (before now : Context) (outcome : Outcome) → outcome ≡ Cancelled (value_of before v) → Completes old new before now r a outcome → Did old new (Cancel r a v) before now
 did_cancel old new r a v before now outcome is completes =
-    let adds = subst (λ (o : Outcome). Adds old new (event 1 (call.Complete (comp_number a) o) (Completed completes.reply))) is completes.adds in
-    did_one old new (Cancel r a v) before now (call.Complete (comp_number a) (Cancelled (value_of before v))) (Completed completes.reply) adds
-    (subst (λ (d : Context). Does 1 (Cancel r a v) before (event 1 (call.Complete (comp_number a) (Cancelled (value_of before v))) (Completed completes.reply) ∷ []) next d) (sym completes.told) (cancel_next completes.reply)) refl refl
+    let k = completes.number in
+    let adds = subst (λ (o : Outcome). Adds old new (event 1 (call.Complete k o) (Completed completes.reply))) is completes.adds in
+    did_one old new (Cancel r a v) before now (call.Complete k (Cancelled (value_of before v))) (Completed completes.reply) adds
+    (subst (λ (d : Context). Does 1 (Cancel r a v) before (event 1 (call.Complete k (Cancelled (value_of before v))) (Completed completes.reply) ∷ []) next d) (sym completes.told) (cancel_next completes.reply completes.is)) refl refl
 
-pub did_peek : (old new : Past) (r q : ℕ) (a : CompRef) (before now : Context) (k : ℕ) (reply : Reply) → k ≡ comp_number a → reply ≡ reply_of (world_of old) 1 (call.Peek k)
+pub did_peek : (old new : Past) (r q : ℕ) (a : CompRef) (before now : Context) (k : ℕ) (reply : Reply) → comp_number a ≡ Some k → reply ≡ reply_of (world_of old) 1 (call.Peek k)
     → new ≡ longer old (event 1 (call.Peek k) reply) → now ≡ with_register (with_register before r (state_number (seen_of reply))) q (outcome_number (seen_of reply)) → Did old new (Peek r q a) before now
 did_peek old new r q a before now k reply number answers is told =
     let shape = peeked_is (slice_get (world_of old).comps k) in
     let reply_is : reply ≡ Peeked shape.0 = answers ∙ shape.1 in
-    let here : new ≡ longer old (event 1 (call.Peek (comp_number a)) (Peeked shape.0)) = is ∙ ap (λ (p : ℕ × Reply). longer old (event 1 (call.Peek p.0) p.1)) (pair number reply_is) in
+    let here : new ≡ longer old (event 1 (call.Peek k) (Peeked shape.0)) = is ∙ ap (λ (x : Reply). longer old (event 1 (call.Peek k) x)) reply_is in
     let told' : now ≡ with_register (with_register before r (state_number shape.0)) q (outcome_number shape.0) = told ∙ ap (λ (x : Reply). with_register (with_register before r (state_number (seen_of x))) q (outcome_number (seen_of x))) reply_is in
-    did_one old new (Peek r q a) before now (call.Peek (comp_number a)) (Peeked shape.0) (adds old new 1 (call.Peek (comp_number a)) (Peeked shape.0) here refl refl)
-    (subst (λ (d : Context). Does 1 (Peek r q a) before (event 1 (call.Peek (comp_number a)) (Peeked shape.0) ∷ []) next d) (sym told') (peek_next shape.0)) refl refl
+    did_one old new (Peek r q a) before now (call.Peek k) (Peeked shape.0) (adds old new 1 (call.Peek k) (Peeked shape.0) here refl refl)
+    (subst (λ (d : Context). Does 1 (Peek r q a) before (event 1 (call.Peek k) (Peeked shape.0) ∷ []) next d) (sym told') (peek_next shape.0 number)) refl refl

@@ -19,32 +19,21 @@ use Rattle.pic_machine.specs.History.{event, origin_of, world, IsLegal}
 use Rattle.pic_machine.specs.Log.{is_logged, log}
 use Rattle.pic_machine.specs.Order.{IsOwn, stops, InFifo, begin, turn}
 use Rattle.pic_machine.proofs.Histories.{world-push}
-use Rattle.pic_run.specs.declared.program.Operand.TheVariants.{Reg}
-use Rattle.pic_run.specs.declared.program.CompRef.{CompRef}
-use Rattle.pic_run.specs.declared.program.CompRef.TheVariants.{Root, Named}
-use Rattle.pic_run.specs.declared.program.Stmt.{Stmt}
-use Rattle.pic_run.specs.declared.program.Stmt.TheVariants.{Set, Say, Return, Cancel, Peek}
-use Rattle.pic_run.specs.Script.{Script}
-use Rattle.pic_run.specs.Grammar.{IsComp, IsStmt}
-use Rattle.pic_run.specs.Meaning.{Context, Exit, next, Runs, done, more, value_of, context_of, comp_number, FollowsText, ended}
+use Rattle.script_tree.specs.declared.program.Operand.TheVariants.{Reg}
+use Rattle.script_tree.specs.declared.program.Stmt.{Stmt}
+use Rattle.script_tree.specs.Tree.{Tree}
+use Rattle.pic_run.specs.Meaning.{Context, Exit, next, Runs, done, more, value_of, context_of, FollowsText, ended}
 use Rattle.pic_run.specs.Run.{start_of, origin, IsRunOf}
 use Rattle.pic_run.specs.Status.{MainReturned}
-use Rattle.pic_run.specs.Past.{Past, world_of, Did, StmtFits}
-use Rattle.pic_run.proofs.Spelled.{each-append}
+use Rattle.pic_run.specs.Past.{Past, world_of, Did, CanRun}
+use Rattle.pic_run.specs.Texts.{main_text, text_of}
 use Rattle.pic_run.proofs.Running.{longer, pair}
 
--- ---- statements and the computations that stand
+-- ---- lists of which each element has a property
 
-comp_fits : (names : List (List ℕ)) (c : CompRef) → IsComp names c → comp_number c < length names + 1
-comp_fits names Root is = omega arith
-comp_fits names (Named k) is = omega arith
-
-stmt_fits : (names : List (List ℕ)) (s : Stmt) → IsStmt names s → StmtFits (length names + 1) s
-stmt_fits names (Set r v) is = is
-stmt_fits names (Say v) is = is
-stmt_fits names (Return r c v) is = (is.0, comp_fits names c is.1, is.2)
-stmt_fits names (Cancel r c v) is = (is.0, comp_fits names c is.1, is.2)
-stmt_fits names (Peek r q c) is = (is.0, is.1, comp_fits names c is.2)
+each-append : {A : Type 0} (P : A → Type 0) (xs ys : List A) → AllByRecursion P xs → AllByRecursion P ys → AllByRecursion P (xs ++ ys)
+each-append P [] ys p q = q
+each-append P (x ∷ xs) ys p q = (p.0, each-append P xs ys p.1 q)
 
 each_at : {A : Type 0} (P : A → Type 0) (xs : List A) (n : ℕ) (x : A) → AllByRecursion P xs → n < length xs → x ≡ get_or xs n x → P x
 each_at P [] n x all within is = absurd (omega arith)
@@ -56,18 +45,21 @@ each_at P (y ∷ xs) (suc n) x all within is = each_at P xs n x all.1 (omega ari
 abbrev first : Context
 first = context_of (record { text = 0; value = 0; current = 0 })
 
-pub record UnderWay (script : Script) (past : Past) (n : ℕ) (c : Context) : Type 0 where
+abbrev main_stmts : Tree → List Stmt
+main_stmts script = text_of script (main_text script)
+
+pub record UnderWay (script : Tree) (past : Past) (n : ℕ) (c : Context) : Type 0 where
   pub start : past.start ≡ start_of script
   pub own : List Happened
   pub is : past.history ≡ event 1 call.Turn Plain ∷ own
   pub mine : AllByRecursion (IsOwn 1) own
   pub on : AllByRecursion (λ h. stops h.entry.call ≡ false) own
   -- whatever the statements from here on may leave behind, the whole text may leave behind what stands
-  pub runs : (ys : List Happened) (x : Exit) (d : Context) → Runs 1 (drop n script.stmts) c ys x d → Runs 1 script.stmts first (own ++ ys) x d
+  pub runs : (ys : List Happened) (x : Exit) (d : Context) → Runs 1 (drop n (main_stmts script)) c ys x d → Runs 1 (main_stmts script) first (own ++ ys) x d
   pub fibers : (world_of past).fibers ≡ Live ∷ []
-  pub comps : length (world_of past).comps ≡ length script.comps + 1
+  pub comps : length (world_of past).comps ≡ length script.decls + 1
 
-pub begun : (script : Script) (old new : Past) (reply : Reply) → old.start ≡ start_of script → old.history ≡ [] → reply ≡ Plain → new ≡ longer old (event 1 call.Turn reply) → UnderWay script new 0 first
+pub begun : (script : Tree) (old new : Past) (reply : Reply) → old.start ≡ start_of script → old.history ≡ [] → reply ≡ Plain → new ≡ longer old (event 1 call.Turn reply) → UnderWay script new 0 first
 begun script old new reply start empty plain is =
     let here : new ≡ longer old (event 1 call.Turn Plain) = is ∙ ap (λ (r : Reply). longer old (event 1 call.Turn r)) plain in
     let history : new.history ≡ event 1 call.Turn Plain ∷ [] = ap (λ (p : Past). p.history) here ∙ ap (λ (hs : List Happened). hs ++ event 1 call.Turn Plain ∷ []) empty in
@@ -81,17 +73,17 @@ begun script old new reply start empty plain is =
       on = tt;
       runs = λ ys x d r. r;
       fibers = ap (λ (w : State). w.fibers) worlds;
-      comps = ap (λ (w : State). length w.comps) worlds ∙ length-replicate (length script.comps + 1) Running;
+      comps = ap (λ (w : State). length w.comps) worlds ∙ length-replicate (length script.decls + 1) Running;
     }
 
-pub fits_here : (script : Script) (past : Past) (n : ℕ) (c : Context) (s : Stmt) → UnderWay script past n c → AllByRecursion (IsStmt script.comps) script.stmts → n < length script.stmts → s ≡ get_or script.stmts n s
-    → StmtFits (length (world_of past).comps) s
+pub fits_here : (script : Tree) (past : Past) (n : ℕ) (c : Context) (s : Stmt) → UnderWay script past n c → AllByRecursion (CanRun (length script.decls + 1)) (main_stmts script) → n < length (main_stmts script) → s ≡ get_or (main_stmts script) n s
+    → CanRun (length (world_of past).comps) s
 fits_here script past n c s under valid within is =
-    subst (λ (k : ℕ). StmtFits k s) (sym under.comps) (stmt_fits script.comps s (each_at (IsStmt script.comps) script.stmts n s valid within is))
+    subst (λ (k : ℕ). CanRun k s) (sym under.comps) (each_at (CanRun (length script.decls + 1)) (main_stmts script) n s valid within is)
 
-pub goes_on : (script : Script) (old new : Past) (n : ℕ) (s : Stmt) (c d : Context) → UnderWay script old n c → n < length script.stmts → s ≡ get_or script.stmts n s → Did old new s c d → UnderWay script new (n + 1) d
+pub goes_on : (script : Tree) (old new : Past) (n : ℕ) (s : Stmt) (c d : Context) → UnderWay script old n c → n < length (main_stmts script) → s ≡ get_or (main_stmts script) n s → Did old new s c d → UnderWay script new (n + 1) d
 goes_on script old new n s c d under within is did =
-    let rest : drop n script.stmts ≡ s ∷ drop (n + 1) script.stmts = drop_more script.stmts n s within ∙ ap (λ (x : Stmt). x ∷ drop (n + 1) script.stmts) (sym is) in
+    let rest : drop n (main_stmts script) ≡ s ∷ drop (n + 1) (main_stmts script) = drop_more (main_stmts script) n s within ∙ ap (λ (x : Stmt). x ∷ drop (n + 1) (main_stmts script)) (sym is) in
     record {
       start = did.start ∙ under.start;
       own = under.own ++ did.made;
@@ -99,7 +91,7 @@ goes_on script old new n s c d under within is did =
       mine = each-append (IsOwn 1) under.own did.made under.mine did.own;
       on = each-append (λ h. stops h.entry.call ≡ false) under.own did.made under.on did.on;
       runs = λ ys x e later.
-          subst (λ (hs : List Happened). Runs 1 script.stmts first hs x e) (sym (append_assoc under.own did.made ys))
+          subst (λ (hs : List Happened). Runs 1 (main_stmts script) first hs x e) (sym (append_assoc under.own did.made ys))
           (under.runs (did.made ++ ys) x e (subst (λ (ss : List Stmt). Runs 1 ss c (did.made ++ ys) x e) (sym rest) (more did.does later)));
       fibers = did.fibers ∙ under.fibers;
       comps = did.comps ∙ under.comps;
@@ -123,7 +115,7 @@ only_main : (o : Birth) (f : ℕ) (birth : Birth) (b : Bool) → (f == 1) ≡ b 
 only_main o f birth true here is = (grind (arith, nat_tests), cc)
 only_main o f birth false here is = absurd cc
 
-pub whole : (script : Script) (old new : Past) (c : Context) (v : ℕ) (reply : Reply) → UnderWay script old (length script.stmts) c → v ≡ value_of c (Reg 0) → reply ≡ Plain
+pub whole : (script : Tree) (old new : Past) (c : Context) (v : ℕ) (reply : Reply) → UnderWay script old (length (main_stmts script)) c → v ≡ value_of c (Reg 0) → reply ≡ Plain
     → new ≡ longer old (event 1 (call.End (Returned v)) reply) → IsLegal (origin_of new.start) new.history → (new.start ≡ start_of script) × IsRunOf script new.history × MainReturned (world (origin script) new.history)
 whole script old new c v reply under value plain is legal =
     let final = event 1 (call.End (Returned (value_of c (Reg 0)))) Plain in
@@ -131,10 +123,10 @@ whole script old new c v reply under value plain is legal =
     let start : new.start ≡ start_of script = ap (λ (p : Past). p.start) here ∙ under.start in
     let history : new.history ≡ event 1 call.Turn Plain ∷ (under.own ++ final ∷ []) = ap (λ (p : Past). p.history) here ∙ ap (λ (hs : List Happened). hs ++ final ∷ []) under.is in
     let mine : AllByRecursion (IsOwn 1) (under.own ++ final ∷ []) = each-append (IsOwn 1) under.own (final ∷ []) under.mine (record { by = refl; within = refl }, tt) in
-    let runs : Runs 1 script.stmts first under.own next c = subst (λ (hs : List Happened). Runs 1 script.stmts first hs next c) (append-nil under.own)
-    (under.runs [] next c (subst (λ (ss : List Stmt). Runs 1 ss c [] next c) (sym (drop_all (length script.stmts) script.stmts (omega arith))) done)) in
+    let runs : Runs 1 (main_stmts script) first under.own next c = subst (λ (hs : List Happened). Runs 1 (main_stmts script) first hs next c) (append-nil under.own)
+    (under.runs [] next c (subst (λ (ss : List Stmt). Runs 1 ss c [] next c) (sym (drop_all (length (main_stmts script)) (main_stmts script) (omega arith))) done)) in
     let logs : log new.history 1 ≡ under.own ++ final ∷ [] = ap (λ (hs : List Happened). log hs 1) history ∙ own_log (under.own ++ final ∷ []) mine in
-    let main : FollowsText script 1 (record { text = 0; value = 0; current = 0 }) (log new.history 1) = subst (λ (hs : List Happened). FollowsText script 1 (record { text = 0; value = 0; current = 0 }) hs) (sym logs) (ended runs) in
+    let main : FollowsText script 1 (origin script).main (log new.history 1) = subst (λ (hs : List Happened). FollowsText script 1 (origin script).main hs) (sym logs) (ended runs) in
     let fibers : (world (origin script) new.history).fibers ≡ Ended (Returned (value_of c (Reg 0))) ∷ [] =
     ap (λ (hs : List Happened). (world (origin script) hs).fibers) (ap (λ (p : Past). p.history) here)
     ∙ (ap (λ (w : State). w.fibers) (world-push (origin script) old.history final)

@@ -8,12 +8,10 @@ use Rattle.pic_machine.specs.History.{world}
 use Rattle.pic_run.specs.declared.status.Status.{Status}
 use Rattle.pic_run.specs.declared.status.Status.TheVariants.{Done, Usage, Refused, ReadFault, WriteFault, OutOfMemory, TooLarge}
 use Rattle.pic_run.specs.declared.limits.TheConstants.{MOST_BYTES}
-use Rattle.pic_run.specs.Script.{Script}
-use Rattle.pic_run.specs.Grammar.{IsScript}
 use Rattle.pic_run.specs.Run.{IsRunOf, origin}
 use Rattle.pic_run.specs.Report.{report}
 use Rattle.pic_run.specs.Request.{Command, run, check, show, script_of, request}
-use Rattle.pic_run.specs.Refusal.{IsRefused, refusal_text}
+use Rattle.pic_run.specs.Refusal.{Accepts, IsRefused, refusal_text}
 use Rattle.script_tree.specs.declared.refusal.Refused.{Refused as Refusal}
 use Rattle.script_tree.specs.Tree.{Tree}
 use Rattle.script_tree.specs.Grammar.{grammar}
@@ -43,14 +41,15 @@ asked_of words held faults faults_now failed = record {
 -- for: the report of one run, with main's end as the status; that they are a script; or its
 -- canonical text
 pub data Answers (bytes : List ℕ) : Command → List ℕ → Status → Type 0 where
-  refused : {command : Command} (r : Refusal) → IsRefused command bytes r
+  refused : {command : Command} (r : Refusal) → IsRefused bytes command r
       → Answers bytes command (refusal_text r) Refused
-  ran : {script input : List ℕ} (s : Script) (history : List Happened) → IsScript bytes s
-      → IsRunOf s history → IsStatusOf (world (origin s) history) Done
-      → Answers bytes (run script input) (report s history) Done
+  ran : {script input : List ℕ} (tree : Tree) (history : List Happened) → grammar bytes ≡ Ok tree
+      → Accepts (run script input) tree → IsRunOf tree history
+      → IsStatusOf (world (origin tree) history) Done
+      → Answers bytes (run script input) (report tree history) Done
   checked : {script : List ℕ} (tree : Tree) → grammar bytes ≡ Ok tree
       → Answers bytes (check script) (codes "ok\n") Done
-  shown : {script : List ℕ} (tree : Tree) → grammar bytes ≡ Ok tree
+  shown : {script : List ℕ} (tree : Tree) → grammar bytes ≡ Ok tree → grammar (canon tree) ≡ Ok tree
       → Answers bytes (show script) (canon tree) Done
 
 -- the text is due, with this status where it is written whole

@@ -1,5 +1,5 @@
 -- The headline: what a call that answers Done says of the script, the history and the report.
-use Rattle.std.specs.Prelude.{◌≡◌, ℕ, Option, Some, Ok, List, ◌⊎◌, [], codes}
+use Rattle.std.specs.Prelude.{◌≡◌, ℕ, IsTrue, Option, Some, Ok, List, ◌⊎◌, [], codes}
 use Rattle.std.specs.Io.KnownBytes.{Appends}
 use Rattle.pic_io.specs.Faults.{Rose}
 use Rattle.pic_io.specs.Held.{Held, Gives, IsLongerThan}
@@ -11,13 +11,12 @@ use Rattle.pic_machine.specs.Final.{IsFinal}
 use Rattle.pic_machine.specs.Order.{IsInFifoOrder}
 use Rattle.pic_run.specs.declared.limits.TheConstants.{MOST_BYTES}
 use Rattle.pic_run.specs.declared.status.Status.{Status}
-use Rattle.pic_run.specs.Script.{Script}
-use Rattle.pic_run.specs.Grammar.{IsScript}
 use Rattle.pic_run.specs.Meaning.{FollowsText}
 use Rattle.pic_run.specs.Run.{origin}
 use Rattle.pic_run.specs.Report.{report}
 use Rattle.pic_run.specs.Request.{Command, script_of, request}
 use Rattle.pic_run.specs.Refusal.{IsRefused, refusal_text}
+use Rattle.pic_run.specs.Served.{is_served}
 use Rattle.script_tree.specs.declared.refusal.Refused.{Refused as Refusal}
 use Rattle.script_tree.specs.Tree.{Tree}
 use Rattle.script_tree.specs.Grammar.{grammar}
@@ -26,12 +25,13 @@ use Rattle.pic_run.specs.Status.{IsStatusOf}
 use Rattle.pic_run.specs.Output.{AppendsFront}
 use Rattle.pic_run.specs.Due.{Asked, Due}
 
--- The bytes of the script's file are a script, and there is one history such that:
+-- The bytes of the script's file are a script that a run serves, and there is one history such that:
 pub record Headline (held : Held) (before now : Option (List ℕ)) (status : Status) : Type 0 where
   pub bytes : List ℕ
   pub given : Gives held bytes
-  pub script : Script
-  pub reads : IsScript bytes script
+  pub script : Tree
+  pub reads : grammar bytes ≡ Ok script
+  pub served : IsTrue (is_served script)
   pub history : List Happened
   -- it is a legal history of the machine from the script's start
   pub legal : IsLegal (origin script) history
@@ -55,13 +55,15 @@ pub record CheckedBy (held : Held) (before now : Option (List ℕ)) : Type 0 whe
   pub reads : grammar bytes ≡ Ok tree
   pub written : Appends before now (codes "ok\n")
 
--- The bytes of the script's file are a script, and the sink took its canonical text.
+-- The bytes of the script's file are a script, and the sink took its canonical text, which is a text of
+-- the same script.
 pub record ShownBy (held : Held) (before now : Option (List ℕ)) : Type 0 where
   pub bytes : List ℕ
   pub given : Gives held bytes
   pub tree : Tree
   pub reads : grammar bytes ≡ Ok tree
   pub written : Appends before now (canon tree)
+  pub again : grammar (canon tree) ≡ Ok tree
 
 -- what the sink took is a front of a text that was due
 pub record TookFront (asked : Asked) (before now : Option (List ℕ)) : Type 0 where
@@ -82,7 +84,7 @@ pub record RefusedBy (words : List (List ℕ)) (held : List ℕ → Held) (befor
   pub bytes : List ℕ
   pub given : Gives (held (script_of command)) bytes
   pub refusal : Refusal
-  pub cause : IsRefused command bytes refusal
+  pub cause : IsRefused bytes command refusal
   pub written : Appends before now (refusal_text refusal)
 
 -- A read failed: the files' faults rose in this call, and the last failed read was of the script.

@@ -1,6 +1,6 @@
 -- What the runner keeps: the history so far and the start that it goes on from; and what one statement
 -- adds to it. Only the runner's own contracts cite them.
-use Rattle.std.specs.Prelude.{◌≡◌, ℕ, ◌^◌, ◌<◌, false, Option, None, List, [], ◌∷◌, ◌++◌, length}
+use Rattle.std.specs.Prelude.{◌≡◌, ℕ, ◌^◌, ◌<◌, false, Option, Some, None, MatchOption, List, [], ◌∷◌, ◌++◌, length}
 use Rattle.std.specs.List.{AllByRecursion}
 use Rattle.pic_base.specs.declared.outcome.Outcome.{Outcome}
 use Rattle.pic_machine.specs.declared.entry.Call.TheVariants as call
@@ -13,10 +13,10 @@ use Rattle.pic_machine.specs.declared.world.Start.{Start}
 use Rattle.pic_machine.specs.State.{State}
 use Rattle.pic_machine.specs.History.{event, origin_of, IsLegal, world}
 use Rattle.pic_machine.specs.Order.{IsOwn, stops}
-use Rattle.pic_run.specs.declared.program.Stmt.{Stmt}
-use Rattle.pic_run.specs.declared.program.CompRef.{CompRef}
-use Rattle.pic_run.specs.declared.program.Stmt.TheVariants.{Set, Say, Return, Cancel, Peek}
-use Rattle.pic_run.specs.Grammar.{IsRegister, IsOperand}
+use Rattle.script_tree.specs.declared.program.Stmt.{Stmt}
+use Rattle.script_tree.specs.declared.program.CompRef.{CompRef}
+use Rattle.script_tree.specs.declared.program.Stmt.TheVariants.{Set, Say, Return, Cancel, Peek}
+use Rattle.script_tree.specs.WellFormed.{IsValue}
 use Rattle.pic_run.specs.Meaning.{Context, Does, next, comp_number, with_register, won}
 
 pub record Past : Type 0 where
@@ -36,13 +36,19 @@ pub record MainRuns (w : State) : Type 0 where
   pub fibers : w.fibers ≡ Live ∷ []
   pub few : length w.comps < 2 ^ 32
 
--- the statement's registers and numbers are what they may be, and its computation is one of so many
-abbrev pub StmtFits : ℕ → Stmt → Type 0
-StmtFits comps (Set r v) = IsRegister r × IsOperand v
-StmtFits comps (Say v) = IsOperand v
-StmtFits comps (Return r c v) = IsRegister r × (comp_number c < comps) × IsOperand v
-StmtFits comps (Cancel r c v) = IsRegister r × (comp_number c < comps) × IsOperand v
-StmtFits comps (Peek r q c) = IsRegister r × IsRegister q × (comp_number c < comps)
+-- the computation has a number, and is one of so many
+abbrev pub IsOneOf : ℕ → CompRef → Type 0
+IsOneOf comps c = MatchOption (comp_number c) ⊥ (λ number. number < comps)
+
+-- the statement is one that is served, its registers and numbers are what they may be, and its
+-- computation is one of so many
+abbrev pub CanRun : ℕ → Stmt → Type 0
+CanRun comps (Set r v) = (r < 16) × IsValue v
+CanRun comps (Say v) = IsValue v
+CanRun comps (Return r c v) = (r < 16) × IsOneOf comps c × IsValue v
+CanRun comps (Cancel r c v) = (r < 16) × IsOneOf comps c × IsValue v
+CanRun comps (Peek r q c) = (r < 16) × (q < 16) × IsOneOf comps c
+CanRun comps _ = ⊥
 
 -- main made one entry, in its turn
 pub record Adds (old new : Past) (h : Happened) : Type 0 where
@@ -53,7 +59,9 @@ pub record Adds (old new : Past) (h : Happened) : Type 0 where
 -- main completed the computation, or found it completed, and its register tells which
 pub record Completes (old new : Past) (before now : Context) (register : ℕ) (comp : CompRef) (outcome : Outcome) : Type 0 where
   pub reply : CompleteReply
-  pub adds : Adds old new (event 1 (call.Complete (comp_number comp) outcome) (Completed reply))
+  pub number : ℕ
+  pub is : comp_number comp ≡ Some number
+  pub adds : Adds old new (event 1 (call.Complete number outcome) (Completed reply))
   pub told : now ≡ with_register before register (won reply)
 
 -- what a reply says of a completion, and of a peek

@@ -1,6 +1,6 @@
 -- The text of a report.
 use Rattle.std.proofs.Common.{zero, suc}
-use Rattle.std.specs.Prelude.{ℕ, ◌+◌, ◌==◌, if◌then◌else◌, Bool, false, Option, Some, None, unwrap_or, List, [], ◌∷◌, ◌++◌, codes, decimal, slice_index_or, slice_get}
+use Rattle.std.specs.Prelude.{ℕ, ◌+◌, ◌==◌, if◌then◌else◌, Bool, false, Option, Some, None, unwrap_or, List, [], ◌∷◌, ◌++◌, codes, decimal, slice_index_or, slice_get, map}
 use Rattle.std.specs.List.{flat_map}
 use Rattle.pic_base.specs.declared.outcome.Outcome.TheVariants.{Cancelled}
 use Rattle.pic_base.specs.Outcome.{outcome_text}
@@ -17,7 +17,8 @@ use Rattle.pic_machine.specs.declared.state.FiberState.TheVariants.{Live, Ended}
 use Rattle.pic_machine.specs.State.{State}
 use Rattle.pic_machine.specs.History.{world}
 use Rattle.pic_machine.specs.Log.{log, visible}
-use Rattle.pic_run.specs.Script.{Script}
+use Rattle.script_tree.specs.declared.program.Decl.{Decl}
+use Rattle.script_tree.specs.Tree.{Tree}
 use Rattle.pic_run.specs.Run.{origin}
 
 -- ---- fibers
@@ -99,6 +100,10 @@ report_lines names hs w = (codes "picos report 1\n" ∷ [])
     ++ (comps_lines names hs 0 w.comps
     ++ (codes "clock 0\n" ∷ (run_line (slice_get w.fibers 0) ∷ []))))
 
+-- the names of the declared computations, in order
+abbrev pub declared_names : Tree → List (List ℕ)
+declared_names script = map (λ (d : Decl). d.name) script.decls
+
 -- the report of a history of the script
-abbrev pub report : Script → List Happened → List ℕ
-report script hs = flat_map (λ line. line) (report_lines script.comps hs (world (origin script) hs))
+abbrev pub report : Tree → List Happened → List ℕ
+report script hs = flat_map (λ line. line) (report_lines (declared_names script) hs (world (origin script) hs))

@@ -8,19 +8,21 @@ use Rattle.pic_machine.specs.Log.{log}
 use Rattle.pic_machine.specs.Final.{IsFinal}
 use Rattle.pic_machine.specs.Order.{IsInFifoOrder}
 use Rattle.pic_run.specs.declared.limits.TheConstants.{LIMITS}
-use Rattle.pic_run.specs.Script.{Script}
+use Rattle.script_tree.specs.Tree.{Tree}
+use Rattle.pic_run.specs.Texts.{main_text}
 use Rattle.pic_run.specs.Meaning.{FollowsText}
 
--- the root and the declared computations stand, and main runs text 0
-abbrev pub start_of : Script → Start
-start_of script = record { comps = length script.comps + 1; text = 0; limits = LIMITS }
+-- the root and the declared computations stand (so far nothing else is declared), and main runs the
+-- main text
+abbrev pub start_of : Tree → Start
+start_of script = record { comps = length script.decls + 1; text = main_text script; limits = LIMITS }
 
-abbrev pub origin : Script → Origin
+abbrev pub origin : Tree → Origin
 origin script = origin_of (start_of script)
 
 -- one legal history of the machine from the script's start, in which each fiber that was made follows
 -- its text from its birth, which ends in a final world, and whose turns stand in the FIFO order
-pub record IsRunOf (script : Script) (history : List Happened) : Type 0 where
+pub record IsRunOf (script : Tree) (history : List Happened) : Type 0 where
   pub legal : IsLegal (origin script) history
   pub follows : (f : ℕ) (birth : Birth) → birth_in (origin script) history f ≡ Some birth
       → FollowsText script f birth (log history f)

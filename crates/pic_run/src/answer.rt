@@ -1,19 +1,24 @@
 //! Makes ready what a call has to write.
-ghost use Rattle.std.specs.Prelude.{◌≡◌, ◌≤◌, ℕ, List, Some, None, length, map, string_bytes, IfOk};
-ghost use Rattle.pic_run.specs.Request.{check, command_of, request as asked_for, run, show};
+ghost use Rattle.std.specs.Prelude.{◌≡◌, ◌≤◌, ℕ, List, Some, None, Ok, length, map, string_bytes, IfOk};
+ghost use Rattle.script_tree.specs.Grammar.{grammar};
+ghost use Rattle.script_tree.specs.WellFormed.{IsWellFormed};
+ghost use Rattle.pic_run.specs.Request.{command_of, request as asked_for, run};
 ghost use Rattle.pic_run.specs.Answer.{Tells, answer_status, answer_text};
 ghost use Rattle.pic_run.specs.Due.{Answers, Due, asked_of};
 
 use crate::limits::MOST_BYTES;
-use crate::reader::{ParseRefusal, parse};
 use crate::report::{Lines, report_of};
 use crate::request::{Mode, Request, RequestRefusal, request_of};
 use crate::run::run_program;
+use crate::served::is_served;
 use crate::status::Status;
 use pic_base::Memory;
 use pic_io::{Files, ReadRefusal};
-use script_tree::Refused;
+use script_tree::{ParseRefusal, Program, Refused, parse, show};
 use std::alloc::Global;
+
+/// How a script is refused that a run doesn't serve yet.
+const UNSERVED: Refused = Refused { line: 0, cause: 0 };
 
 /// A text to write, and the status of a call that has written it whole.
 #[derive(Drop)]
@@ -73,40 +78,44 @@ fn answer_of_text(alloc: Global, request: &Request, bytes: &[u8]) -> Result<Answ
     ensures { IfOk result (λ answer.
         Answers bytes.now (command_of request.now) (answer_text answer) (answer_status answer)) }
 {
+    match parse(alloc, bytes) {
+        Ok(program) => answer_of_program(alloc, request, &program),
+        Err(ParseRefusal::Refused(refused)) => refusal(alloc, refused),
+        Err(ParseRefusal::Memory) => Err(Memory),
+    }
+}
+
+/// What a call has to write that asks so of a script.
+fn answer_of_program(
+    alloc: Global,
+    request: &Request,
+    program: &Program,
+) -> Result<Answer, Memory>
+    requires { IsWellFormed program.now }
+    ensures { IfOk result (λ answer. (bytes : List ℕ) → grammar bytes ≡ Ok program.now
+        → Answers bytes (command_of request.now) (answer_text answer) (answer_status answer)) }
+{
     match request.mode {
-        Mode::Run { .. } => answer_of_run(alloc, bytes),
-        Mode::Check { .. } => answer_of_check(alloc, bytes),
-        Mode::Show { .. } => answer_of_show(alloc, bytes),
+        Mode::Run { .. } => answer_of_run(alloc, program),
+        Mode::Check { .. } => Ok(Answer::Text("ok\n", Status::Done)),
+        Mode::Show { .. } => Ok(Answer::Made(show(alloc, program)?, Status::Done)),
     }
 }
 
-/// That the text is a script, or the first fault.
-fn answer_of_check(alloc: Global, bytes: &[u8]) -> Result<Answer, Memory>
-    requires { length bytes.now ≤ 16777216 }
-    ensures { IfOk result (λ answer. (script : List ℕ)
-        → Answers bytes.now (check script) (answer_text answer) (answer_status answer)) }
+/// The report of a run, where one serves the script.
+fn answer_of_run(alloc: Global, program: &Program) -> Result<Answer, Memory>
+    requires { IsWellFormed program.now }
+    ensures { IfOk result (λ answer. (bytes script input : List ℕ) → grammar bytes ≡ Ok program.now
+        → Answers bytes (run script input) (answer_text answer) (answer_status answer)) }
 {
-    match script_tree::parse(alloc, bytes) {
-        Ok(_program) => Ok(Answer::Text("ok\n", Status::Done)),
-        Err(script_tree::ParseRefusal::Refused(refused)) => refusal(alloc, refused),
-        Err(script_tree::ParseRefusal::Memory) => Err(Memory),
+    if !is_served(program) {
+        return refusal(alloc, UNSERVED);
     }
+    let run = run_program(alloc, program)?;
+    Ok(Answer::Report(report_of(alloc, program, &run)?))
 }
 
-/// The canonical text of the script, or the first fault.
-fn answer_of_show(alloc: Global, bytes: &[u8]) -> Result<Answer, Memory>
-    requires { length bytes.now ≤ 16777216 }
-    ensures { IfOk result (λ answer. (script : List ℕ)
-        → Answers bytes.now (show script) (answer_text answer) (answer_status answer)) }
-{
-    match script_tree::parse(alloc, bytes) {
-        Ok(program) => Ok(Answer::Made(script_tree::show(alloc, &program)?, Status::Done)),
-        Err(script_tree::ParseRefusal::Refused(refused)) => refusal(alloc, refused),
-        Err(script_tree::ParseRefusal::Memory) => Err(Memory),
-    }
-}
-
-/// The line that tells the first fault.
+/// The line that tells why a script was refused.
 fn refusal(alloc: Global, refused: Refused) -> Result<Answer, Memory>
     ensures { IfOk result (λ answer. Tells answer refused) }
 {
@@ -114,18 +123,4 @@ fn refusal(alloc: Global, refused: Refused) -> Result<Answer, Memory>
     let cause = refused.cause;
     let text = format!(in alloc; "refused line {line} cause {cause}\n")?;
     Ok(Answer::Made(text, Status::Refused))
-}
-
-/// What a run of this script has to write.
-fn answer_of_run(alloc: Global, bytes: &[u8]) -> Result<Answer, Memory>
-    ensures { IfOk result (λ answer. (script input : List ℕ)
-        → Answers bytes.now (run script input) (answer_text answer) (answer_status answer)) }
-{
-    let program = match parse(alloc, bytes) {
-        Ok(program) => program,
-        Err(ParseRefusal::Refused) => return refusal(alloc, Refused { line: 0, cause: 0 }),
-        Err(ParseRefusal::Memory) => return Err(Memory),
-    };
-    let run = run_program(alloc, &program)?;
-    Ok(Answer::Report(report_of(alloc, &program, &run)?))
 }

@@ -1,13 +1,13 @@
 //! One fiber, and what each statement does.
-ghost use Rattle.std.specs.Prelude.{◌≡◌, ◌^◌, ◌<◌, length, OnOk};
-ghost use Rattle.pic_run.specs.Grammar.{IsOperand, IsRegister};
+ghost use Rattle.std.specs.Prelude.{◌≡◌, ◌^◌, ◌<◌, Some, length, OnOk};
+ghost use Rattle.script_tree.specs.WellFormed.{IsValue};
 ghost use Rattle.pic_run.specs.Meaning.{comp_number, context_of, outcome_number, state_number, value_of, with_register};
-ghost use Rattle.pic_run.specs.Past.{Completes, Did, MainRuns, StmtFits, seen_of, won_of, world_of};
+ghost use Rattle.pic_run.specs.Past.{CanRun, Completes, Did, IsOneOf, MainRuns, seen_of, won_of, world_of};
 
-use crate::program::{CompRef, Operand, Stmt};
 use crate::runner::Runner;
 use pic_base::{CompNo, FiberNo, Memory, Outcome, Value};
 use pic_machine::{Call, CompleteReply, Reply};
+use script_tree::{CompRef, Operand, Stmt};
 use std::marker::Model;
 
 /// The number of the main fiber.
@@ -36,7 +36,7 @@ impl Fiber {
     }
 
     pub(crate) fn value(&self, operand: Operand) -> Value
-        requires { IsOperand operand }
+        requires { IsValue operand }
         ensures { result ≡ value_of self.now operand }
     {
         match operand {
@@ -46,37 +46,38 @@ impl Fiber {
     }
 
     fn set(&mut self, register: u8, value: Value)
-        requires { IsRegister register }
+        requires { register < 16 }
         ensures { self.new ≡ with_register self.old register value }
     {
         self.registers[register as usize] = value;
     }
 
     /// Runs one statement of main.
-    pub(crate) fn run(&mut self, runner: &mut Runner, stmt: Stmt) -> Result<(), Memory>
-        requires valid { StmtFits (length (world_of runner.old).comps) stmt }
+    pub(crate) fn run(&mut self, runner: &mut Runner, stmt: &Stmt) -> Result<(), Memory>
+        requires can { CanRun (length (world_of runner.old).comps) stmt.now }
         requires main { MainRuns (world_of runner.old) }
-        ensures { OnOk result (Did runner.old runner.new stmt self.old self.new) }
+        ensures { OnOk result (Did runner.old runner.new stmt.now self.old self.new) }
     {
         match stmt {
             Stmt::Set(register, operand) => {
-                let value = self.value(operand);
-                self.set(register, value);
+                let value = self.value(*operand);
+                self.set(*register, value);
                 Ok(())
             }
             Stmt::Say(operand) => {
-                runner.make(MAIN, Call::Say(self.value(operand)))?;
+                runner.make(MAIN, Call::Say(self.value(*operand)))?;
                 Ok(())
             }
             Stmt::Return(register, comp, operand) => {
-                let outcome = Outcome::Returned(self.value(operand));
-                self.complete(runner, register, comp, outcome)
+                let outcome = Outcome::Returned(self.value(*operand));
+                self.complete(runner, *register, *comp, outcome)
             }
             Stmt::Cancel(register, comp, operand) => {
-                let outcome = Outcome::Cancelled(self.value(operand));
-                self.complete(runner, register, comp, outcome)
+                let outcome = Outcome::Cancelled(self.value(*operand));
+                self.complete(runner, *register, *comp, outcome)
             }
-            Stmt::Peek(state, value, comp) => self.peek(runner, state, value, comp),
+            Stmt::Peek(state, value, comp) => self.peek(runner, *state, *value, *comp),
+            _ => unreachable!("no run serves another statement"),
         }
     }
 
@@ -87,8 +88,8 @@ impl Fiber {
         comp: CompRef,
         outcome: Outcome,
     ) -> Result<(), Memory>
-        requires register { IsRegister register }
-        requires comp { comp_number comp < length (world_of runner.old).comps }
+        requires register { register < 16 }
+        requires comp { IsOneOf (length (world_of runner.old).comps) comp }
         requires main { MainRuns (world_of runner.old) }
         ensures { OnOk result
             (Completes runner.old runner.new self.old self.new register comp outcome) }
@@ -106,9 +107,9 @@ impl Fiber {
         value: u8,
         comp: CompRef,
     ) -> Result<(), Memory>
-        requires state { IsRegister state }
-        requires value { IsRegister value }
-        requires comp { comp_number comp < length (world_of runner.old).comps }
+        requires state { state < 16 }
+        requires value { value < 16 }
+        requires comp { IsOneOf (length (world_of runner.old).comps) comp }
         requires main { MainRuns (world_of runner.old) }
         ensures { OnOk result
             (Did runner.old runner.new (Stmt.Peek state value comp) self.old self.new) }
@@ -122,12 +123,13 @@ impl Fiber {
 
 /// The number of a computation: the root, then the declared ones in order.
 fn number_of(comp: CompRef) -> CompNo
-    requires { comp_number comp < 2 ^ 32 }
-    ensures { result ≡ comp_number comp }
+    requires { IsOneOf (2 ^ 32) comp }
+    ensures { comp_number comp ≡ Some result }
 {
     match comp {
         CompRef::Root => 0,
         CompRef::Named(place) => place + 1,
+        CompRef::Promise(_) => unreachable!("no run serves promise registers"),
     }
 }
 

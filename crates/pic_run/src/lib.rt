@@ -1,13 +1,13 @@
 //! The top call, `run_one_call`: from the words of a command line to the bytes of a report.
 //!
-//! For a run it reads the script (`reader`), runs main's statements on the machine and keeps the
-//! history (`run`, `runner`, `fiber`), and writes the report (`report`, `output`). To check or show a
-//! script it asks `script_tree`. It stands on `pic_machine` for worlds and legal histories, on
-//! `script_tree` for the grammar and the canonical text, and on `pic_io` for files and the sink.
-//! `specs/` has the definitions that its contract cites: the form that a run serves (`Grammar`,
-//! `Names`), what statements mean (`Meaning`), which histories are runs (`Run`), the report's text
-//! (`Report`), the words (`Request`), what is refused (`Refusal`), and the promise itself
-//! (`Headline`, `Due`). The program uses that one contract.
+//! It asks `script_tree` for the program that the script is, or its first fault. A run plays main's
+//! statements on the machine and keeps the history (`run`, `runner`, `fiber`), and writes the report
+//! (`report`, `output`); to show a script it asks `script_tree` again. It stands on `pic_machine` for
+//! worlds and legal histories, on `script_tree` for the grammar and the canonical text, and on
+//! `pic_io` for files and the sink. `specs/` has the definitions that its contract cites: which
+//! programs a run serves (`Served`), what statements mean (`Meaning`), which histories are runs
+//! (`Run`), the report's text (`Report`), the words (`Request`), what is refused (`Refusal`), and the
+//! promise itself (`Headline`, `Due`). The program uses that one contract.
 #![tactic(auto)]
 
 mod answer;
@@ -15,17 +15,16 @@ mod call;
 mod fiber;
 mod limits;
 mod output;
-mod program;
-mod reader;
 mod report;
 mod request;
 mod run;
 mod runner;
+mod served;
 mod status;
+mod texts;
 
 pub use call::run_one_call;
 pub use limits::{LIMITS, MOST_BYTES};
-pub use program::{CompRef, Operand, Program, Stmt};
 pub use request::{Mode, Request, RequestRefusal, request_of};
 pub use status::Status;
 

@@ -1,24 +1,24 @@
 //! The report of a run, line by line.
 ghost use Rattle.std.specs.Prelude.{◌≡◌, ◌++◌, ◌∷◌, [], codes, decimal, map, string_bytes, slice_get, IfOk, OnOk};
 ghost use Rattle.pic_run.specs.Past.{world_of};
-ghost use Rattle.pic_run.specs.Report.{comp_name, comp_state_text, comps_lines, fiber_line, fibers_lines, report_lines, run_line, said_line, says_lines};
+ghost use Rattle.pic_run.specs.Report.{comp_name, comp_state_text, comps_lines, declared_names, fiber_line, fibers_lines, report_lines, run_line, said_line, says_lines};
 ghost use Rattle.pic_run.specs.Lines.{said_by};
 
 mod completers;
 mod lines;
 
-use crate::program::Program;
 use crate::runner::Runner;
 use completers::completers;
 pub(crate) use lines::Lines;
 use pic_base::{FiberNo, Memory, Outcome, Value};
 use pic_machine::{Call, CompState, FiberState, Happened};
+use script_tree::Program;
 use std::alloc::Global;
 
 /// The lines of the report of a run of the program.
 pub(crate) fn report_of(alloc: Global, program: &Program, run: &Runner) -> Result<Lines, Memory>
     ensures { IfOk result (λ lines.
-        lines ≡ report_lines program.now.comps run.now.history (world_of run.now)) }
+        lines ≡ report_lines (declared_names program.now) run.now.history (world_of run.now)) }
 {
     let mut lines = Lines::new(alloc);
     lines.push_text(alloc, "picos report 1\n")?;
@@ -67,12 +67,12 @@ fn add_comps(
     run: &Runner,
 ) -> Result<(), Memory>
     ensures { OnOk result (lines.new ≡ lines.old
-        ++ comps_lines program.now.comps run.now.history 0 (world_of run.now).comps) }
+        ++ comps_lines (declared_names program.now) run.now.history 0 (world_of run.now).comps) }
 {
     let comps = run.comps();
     let found = completers(alloc, run.history(), comps.len())?;
     for (number, state) in comps.iter().enumerate() {
-        let name = comp_name(program.comps(), number);
+        let name = comp_name(program, number);
         lines.push(comp_line(alloc, number, name, *state, found[number])?)?;
     }
     Ok(())
@@ -113,14 +113,14 @@ fn comp_line(
 }
 
 /// The root, the name that the script declares, or `-`.
-fn comp_name(names: &[String], number: usize) -> &str
-    ensures { result.now ≡ comp_name (map string_bytes names.now) number }
+fn comp_name(program: &Program, number: usize) -> &str
+    ensures { result.now ≡ comp_name (declared_names program.now) number }
 {
     if number == 0 {
         return "root";
     }
-    match names.get(number - 1) {
-        Some(name) => name.as_str(),
+    match program.decls.get(number - 1) {
+        Some(decl) => decl.name.as_str(),
         None => "-",
     }
 }

@@ -30,7 +30,7 @@ fn file_a(alloc: Global, content: &[u8]) -> Result<MemFiles, Fail> {
 #[test]
 fn reports(rt: HostRuntime) -> Result<(), Fail> {
     let alloc = rt.alloc();
-    let table: [(&[u8], Status, &[u8]); 4] = [
+    let table: [(&[u8], Status, &[u8]); 7] = [
         (FIRST, Status::Done, FIRST_REPORT),
         (
             b"picos 1\ncomp a\nmain\nreturn r1 a 5\nreturn r2 a 6\ncancel r3 a 7\nsay r1\nsay r2\nsay r3\npeek r4 r5 a\nsay r5\nend\n",
@@ -42,8 +42,26 @@ fn reports(rt: HostRuntime) -> Result<(), Fail> {
             Status::Done,
             b"picos report 1\nfiber 1 main returned 7\n  say 2\n  say 9\ncomp 0 root cancelled 9 by 1\nclock 0\nrun done\n",
         ),
+        // Blanks, comments and a last line without an end don't matter.
         (
-            b"picos 1\n main\nend\n",
+            b"\n# first\npicos\t1\r\n main # the text\n\nend",
+            Status::Done,
+            FIRST_REPORT,
+        ),
+        // The first fault is told with its line and cause.
+        (
+            b"picos 1\nmain\nset r16 1\nsay\nend\n",
+            Status::Refused,
+            b"refused line 3 cause 8\n",
+        ),
+        // Scripts that no run serves yet.
+        (
+            b"picos 1\nfiber f\nend\nmain\nend\n",
+            Status::Refused,
+            b"refused line 0 cause 0\n",
+        ),
+        (
+            b"picos 1\nmain\npeek r1 r2 p0\nend\n",
             Status::Refused,
             b"refused line 0 cause 0\n",
         ),

@@ -2,6 +2,7 @@ ghost use Rattle.std.specs.Prelude.{◌≡◌};
 
 use pic_base::Value;
 use std::marker::Model;
+use std::str;
 
 /// What a declaration makes. A semaphore and a latch carry the count that they begin with.
 #[derive(Clone, Copy)]
@@ -30,6 +31,18 @@ impl Model for Name {
     ghost view = { λ n. n.bytes.items };
 
     ghost invariant = { λ n. IsAscii n.bytes.items };
+}
+
+impl Name {
+    /// The name as text.
+    pub fn as_str(&self) -> &str
+        ensures { result.now ≡ self.now }
+    {
+        match str::from_utf8(&self.bytes) {
+            Ok(text) => text,
+            Err(_) => unreachable!("a name is ASCII"),
+        }
+    }
 }
 
 /// A declared thing.

@@ -1,10 +1,11 @@
-use Rattle.std.proofs.Common.{ℕ, ◌∙◌, ap, arith}
+use Rattle.std.proofs.Common.{ℕ, length, ◌∙◌, ap}
 use Rattle.pic_run.specs.Meaning.{with_register}
-use Rattle.pic_run.proofs.Running.{completes}
+use Rattle.pic_run.specs.Past.{world_of}
+use Rattle.pic_run.proofs.Running.{IsOneOf_number, IsOneOf_small, completes}
 use Rattle.pic_run.proofs.fiber.Fiber.complete.Goals as goal
 
 pub number_of-comp-requires : goal.number_of-comp-requires
-number_of-comp-requires c = omega (arith, c.requires.comp, c.requires.main.few)
+number_of-comp-requires c = IsOneOf_small (length (world_of c.args.runner.now).comps) c.args.comp c.requires.comp c.requires.main.few
 
 pub returns : goal.returns
 returns c =

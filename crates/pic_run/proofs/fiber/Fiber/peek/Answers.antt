@@ -1,9 +1,10 @@
-use Rattle.std.proofs.Common.{refl, arith}
-use Rattle.pic_run.proofs.Running.{did_peek}
+use Rattle.std.proofs.Common.{length, refl}
+use Rattle.pic_run.specs.Past.{world_of}
+use Rattle.pic_run.proofs.Running.{IsOneOf_small, did_peek}
 use Rattle.pic_run.proofs.fiber.Fiber.peek.Goals as goal
 
 pub number_of-requires : goal.number_of-requires
-number_of-requires c = omega (arith, c.requires.comp, c.requires.main.few)
+number_of-requires c = IsOneOf_small (length (world_of c.args.runner.now).comps) c.args.comp c.requires.comp c.requires.main.few
 
 pub returns : goal.returns
 returns c =

@@ -8,7 +8,7 @@ use Rattle.script_tree.specs.Reading.{State, Frame, is_head, holds_statements, h
 use Rattle.script_tree.proofs.Moves.{Moves, declares, begins_fiber, begins_main, states, adds_leaf, opens, opens_select, opens_group, begins_else, begins_catch, ends_text, ends_block, ends_select, ends_group, takes_texts, opens_block, IsBlock, a_block, IsSelect, a_select, IsGroup, a_group, Ends, a_text, the_main}
 use Rattle.script_tree.proofs.Nesting.{is_file, stands_in, Nested, IsNested}
 
-text_file : (o : Opener) → takes_texts o ≡ true → is_file o ≡ true
+pub text_file : (o : Opener) → takes_texts o ≡ true → is_file o ≡ true
 text_file opener.Head h = refl
 text_file opener.Between h = refl
 text_file _ h = absurd (false≢true h)

@@ -1,11 +1,15 @@
 pub mod Ascii
 pub mod Descending
+pub mod Fitting
 pub mod Goings
 pub mod Grouping
+pub mod Groups
 pub mod Growth
 pub mod Indents
 pub mod Keeping
+pub mod Lasting
 pub mod Made
+pub mod Mains
 pub mod Moves
 pub mod Moving
 pub mod Naming
@@ -14,5 +18,7 @@ pub mod Numerals
 pub mod Paths
 pub mod Pathways
 pub mod Readings
+pub mod Rebuilding
 pub mod Spanning
+pub mod StatementsFit
 pub mod Texts

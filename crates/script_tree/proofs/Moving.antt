@@ -97,7 +97,7 @@ ends_no_file o behind a_text = refl
 ends_no_file o behind the_main = refl
 
 -- nothing stands around the file
-alone : (o around : Opener) → is_file o ≡ true → stands_in o around ≡ false
+pub alone : (o around : Opener) → is_file o ≡ true → stands_in o around ≡ false
 alone opener.Head around h = refl
 alone opener.Between around h = refl
 alone opener.Over around h = refl

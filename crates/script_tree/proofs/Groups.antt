@@ -59,7 +59,7 @@ block_no_group s o (a_block f parts p is) = opens_no_group o is
 select_no_group : (s : State) (o : Opener) → IsSelect s o → is_group o ≡ false
 select_no_group s o (a_select n v f parts p is) = refl
 
-behind_no_group : (o behind : Opener) → Ends o behind → is_group behind ≡ false
+pub behind_no_group : (o behind : Opener) → Ends o behind → is_group behind ≡ false
 behind_no_group o behind a_text = refl
 behind_no_group o behind the_main = refl
 

@@ -1,10 +1,13 @@
 pub mod Ascii
 pub mod Descending
+pub mod Elements
 pub mod Fitting
+pub mod Frames
 pub mod Goings
 pub mod Grouping
 pub mod Groups
 pub mod Growth
+pub mod Holding
 pub mod Indents
 pub mod Keeping
 pub mod Lasting

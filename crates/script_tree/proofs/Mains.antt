@@ -1,5 +1,5 @@
 -- The main text is the last one: behind it no text begins.
-use Rattle.std.proofs.Common.{◌≡◌, ℕ, ◌+◌, ◌≤◌, ◌∙◌, Bool, true, false, cond, List, [], ◌∷◌, ◌++◌, length, codes, arith, le_refl, le_of_eq, refl, sym, ap, subst}
+use Rattle.std.proofs.Common.{◌≡◌, ℕ, ◌+◌, ◌≤◌, ◌∙◌, Bool, true, false, cond, List, [], ◌∷◌, ◌++◌, length, codes, arith, le_refl, refl, sym, ap, subst}
 use Rattle.std.proofs.lemmas.Bool.{false≢true}
 use Rattle.script_tree.specs.declared.form.GroupForm.TheVariants as group_form
 use Rattle.script_tree.specs.declared.opener.Opener.{Opener}
@@ -9,10 +9,9 @@ use Rattle.script_tree.specs.declared.program.Stmt.{Stmt}
 use Rattle.script_tree.specs.declared.program.Text.{Text}
 use Rattle.script_tree.specs.Lines.{name_in, number_in, part_at}
 use Rattle.script_tree.specs.Reading.{State, Frame, is_over}
-use Rattle.script_tree.proofs.Moves.{Moves, declares, begins_fiber, begins_main, states, adds_leaf, opens, opens_select, opens_group, begins_else, begins_catch, ends_text, ends_block, ends_select, ends_group, takes_texts, opens_block, IsBlock, a_block, IsSelect, a_select, IsGroup, a_group, Becomes, a_then, an_else, a_loop, a_handler, a_forbid, a_permit, an_under, a_link, a_protect, a_bundle, a_flock, Groups, a_choose, a_wrap, a_guard, Ends, a_text, the_main}
-use Rattle.script_tree.proofs.Moving.{alone}
-use Rattle.script_tree.proofs.Keeping.{text_file}
-use Rattle.script_tree.proofs.Nesting.{is_file, stands_in, Nested, IsNested}
+use Rattle.script_tree.proofs.Moves.{Moves, declares, begins_fiber, begins_main, states, adds_leaf, opens, opens_select, opens_group, begins_else, begins_catch, ends_text, ends_block, ends_select, ends_group, opens_block, IsBlock, a_block, IsSelect, a_select, IsGroup, a_group, Becomes, a_then, an_else, a_loop, a_handler, a_forbid, a_permit, an_under, a_link, a_protect, a_bundle, a_flock, Groups, a_choose, a_wrap, a_guard, Ends, a_text, the_main}
+use Rattle.script_tree.proofs.Moving.{alone, text_file}
+use Rattle.script_tree.proofs.Nesting.{is_file, takes_texts, stands_in, Nested, IsNested}
 
 abbrev pub is_main : Opener → Bool
 is_main opener.Main = true
@@ -77,12 +76,9 @@ groups_inner members o e a_guard = (refl, refl)
 
 -- what a move does to the texts
 pub data TextsMove (s t : State) : Type 0 where
-  same_texts : t.texts ≡ s.texts → main_count t ≤ main_count s → TextsMove s t
+  same_texts : t.texts ≡ s.texts → main_count t ≡ main_count s → TextsMove s t
   a_fiber : (text : Text) → t.texts ≡ s.texts ++ text ∷ [] → main_count s ≡ 0 → main_count t ≡ 0 → TextsMove s t
   main_begun : (text : Text) → text.name ≡ codes "main" → t.texts ≡ s.texts ++ text ∷ [] → main_count s ≡ 0 → main_count t ≡ 1 → TextsMove s t
-
-kept : (s t : State) → t.texts ≡ s.texts → main_count t ≡ main_count s → TextsMove s t
-kept s t e m = same_texts e (le_of_eq m)
 
 -- in the file that isn't over no main text was begun
 pub file_mains : (o : Opener) (fs : List Frame) → takes_texts o ≡ true → Nested o fs → mains o fs ≡ 0
@@ -95,32 +91,36 @@ file_mains o (f ∷ fs) h n = absurd (false≢true (sym (alone o f.what (text_fi
 ended : (s : State) (f : Frame) (fs : List Frame) → s.outer ≡ f ∷ fs → IsInner s.top.what → mains f.what fs ≡ main_count s
 ended s f fs e i = sym (ap (λ gs. mains s.top.what gs) e ∙ inner_mains s.top.what f fs i)
 
-text_mains : (o behind : Opener) (f : Frame) → Ends o behind → mains behind [] ≤ mains o (f ∷ [])
-text_mains o behind f a_text = omega arith
-text_mains o behind f the_main = le_refl 1
+not_over : (o : Opener) → takes_texts o ≡ true → is_over o ≡ false
+not_over opener.Over h = absurd (false≢true h)
+not_over _ h = refl
+
+text_mains : (o behind : Opener) (f : Frame) → takes_texts f.what ≡ true → Ends o behind → mains behind [] ≡ mains o (f ∷ [])
+text_mains o behind f h a_text = ap (λ b. cond b 1 0) (sym (not_over f.what h))
+text_mains o behind f h the_main = refl
 
 pub texts_move : (s : State) {t : State} → Moves s t → IsNested s → TextsMove s t
-texts_move s (declares f parts p h full) n = kept s _ refl refl
+texts_move s (declares f parts p h full) n = same_texts refl refl
 texts_move s (begins_fiber parts p h full) n =
     let none = file_mains s.top.what s.outer h n in
     a_fiber (record { name = name_in (part_at parts 0); block = length s.blocks }) refl none none
 texts_move s (begins_main h) n =
     main_begun (record { name = codes "main"; block = length s.blocks }) refl refl (file_mains s.top.what s.outer h n) refl
-texts_move s (states x p h full) n = kept s _ refl refl
-texts_move s (adds_leaf f parts p h) n = kept s _ refl refl
-texts_move s (opens o p h full) n = kept s _ refl (inner_mains o s.top s.outer (block_inner s o p))
-texts_move s (opens_select o p h full) n = kept s _ refl (inner_mains o s.top s.outer (select_inner s o p))
-texts_move s (opens_group o p h) n = kept s _ refl (inner_mains o s.top s.outer (group_inner s o p))
+texts_move s (states x p h full) n = same_texts refl refl
+texts_move s (adds_leaf f parts p h) n = same_texts refl refl
+texts_move s (opens o p h full) n = same_texts refl (inner_mains o s.top s.outer (block_inner s o p))
+texts_move s (opens_select o p h full) n = same_texts refl (inner_mains o s.top s.outer (select_inner s o p))
+texts_move s (opens_group o p h) n = same_texts refl (inner_mains o s.top s.outer (group_inner s o p))
 texts_move s (begins_else l q r is) n =
-    kept s _ refl (part_mains (opener.Then l q r) (opener.Otherwise l q r s.top.place) s.outer (refl, refl) (refl, refl) ∙ ap (λ o. mains o s.outer) (sym is))
+    same_texts refl (part_mains (opener.Then l q r) (opener.Otherwise l q r s.top.place) s.outer (refl, refl) (refl, refl) ∙ ap (λ o. mains o s.outer) (sym is))
 texts_move s (begins_catch parts p is) n =
-    kept s _ refl (part_mains opener.Try (opener.Catch s.top.place (number_in (part_at parts 0))) s.outer (refl, refl) (refl, refl) ∙ ap (λ o. mains o s.outer) (sym is))
+    same_texts refl (part_mains opener.Try (opener.Catch s.top.place (number_in (part_at parts 0))) s.outer (refl, refl) (refl, refl) ∙ ap (λ o. mains o s.outer) (sym is))
 texts_move s (ends_text f behind e h ends) n =
-    same_texts refl (subst (λ fs. mains behind [] ≤ mains s.top.what fs) (sym e) (text_mains s.top.what behind f ends))
-texts_move s (ends_block f fs x e h becomes) n = kept s _ refl (ended s f fs e (becomes_inner s.top.place s.top.what x becomes))
+    same_texts refl (text_mains s.top.what behind f h ends ∙ ap (λ fs. mains s.top.what fs) (sym e))
+texts_move s (ends_block f fs x e h becomes) n = same_texts refl (ended s f fs e (becomes_inner s.top.place s.top.what x becomes))
 texts_move s (ends_select f fs number value e h is) n =
-    kept s _ refl (ended s f fs e (subst (λ o. IsInner o) (sym is) (refl, refl)))
-texts_move s (ends_group f fs x e h groups) n = kept s _ refl (ended s f fs e (groups_inner s.top.events s.top.what x groups))
+    same_texts refl (ended s f fs e (subst (λ o. IsInner o) (sym is) (refl, refl)))
+texts_move s (ends_group f fs x e h groups) n = same_texts refl (ended s f fs e (groups_inner s.top.events s.top.what x groups))
 
 pub mains_few : (o : Opener) (fs : List Frame) → mains o fs ≤ 1
 mains_few o [] = few (is_over o) 0 (omega arith)

@@ -1,7 +1,11 @@
 pub mod Ascii
+pub mod Counting
+pub mod Declaring
 pub mod Descending
+pub mod Distinct
 pub mod Elements
 pub mod Fitting
+pub mod Formed
 pub mod Frames
 pub mod Goings
 pub mod Grouping
@@ -10,6 +14,7 @@ pub mod Growth
 pub mod Holding
 pub mod Indents
 pub mod Keeping
+pub mod Knowing
 pub mod Lasting
 pub mod Made
 pub mod Mains
@@ -24,4 +29,5 @@ pub mod Readings
 pub mod Rebuilding
 pub mod Spanning
 pub mod StatementsFit
+pub mod Stating
 pub mod Texts

@@ -5,13 +5,8 @@ use Rattle.script_tree.specs.declared.form.GroupForm.TheVariants as group_form
 use Rattle.script_tree.specs.declared.opener.Opener.{Opener}
 use Rattle.script_tree.specs.declared.opener.Opener.TheVariants as opener
 use Rattle.script_tree.specs.Reading.{State, Frame, is_head, holds_statements, holds_events}
-use Rattle.script_tree.proofs.Moves.{Moves, declares, begins_fiber, begins_main, states, adds_leaf, opens, opens_select, opens_group, begins_else, begins_catch, ends_text, ends_block, ends_select, ends_group, takes_texts, opens_block, IsBlock, a_block, IsSelect, a_select, IsGroup, a_group, Ends, a_text, the_main}
-use Rattle.script_tree.proofs.Nesting.{is_file, stands_in, Nested, IsNested}
-
-text_file : (o : Opener) → takes_texts o ≡ true → is_file o ≡ true
-text_file opener.Head h = refl
-text_file opener.Between h = refl
-text_file _ h = absurd (false≢true h)
+use Rattle.script_tree.proofs.Moves.{Moves, declares, begins_fiber, begins_main, states, adds_leaf, opens, opens_select, opens_group, begins_else, begins_catch, ends_text, ends_block, ends_select, ends_group, opens_block, IsBlock, a_block, IsSelect, a_select, IsGroup, a_group, Ends, a_text, the_main}
+use Rattle.script_tree.proofs.Nesting.{is_file, takes_texts, stands_in, Nested, IsNested}
 
 opens_in : (o around : Opener) → opens_block o ≡ true → stands_in o around ≡ holds_statements around
 opens_in (opener.Then l t r) around h = refl
@@ -53,8 +48,8 @@ inner o f fs outer e n = let m : Nested o (f ∷ fs) = subst (λ gs. Nested o gs
 
 pub moves_nested : (s : State) {t : State} → Moves s t → IsNested s → IsNested t
 moves_nested s (declares f parts p h full) n = n
-moves_nested s (begins_fiber parts p h full) n = (text_file s.top.what h, n)
-moves_nested s (begins_main h) n = (text_file s.top.what h, n)
+moves_nested s (begins_fiber parts p h full) n = (h, n)
+moves_nested s (begins_main h) n = (h, n)
 moves_nested s (states x p h full) n = n
 moves_nested s (adds_leaf f parts p h) n = n
 moves_nested s (opens o p h full) n = (block_in s o s.top.what p ∙ h, n)

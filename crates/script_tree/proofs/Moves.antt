@@ -21,14 +21,8 @@ use Rattle.script_tree.specs.declared.program.Test.{Test}
 use Rattle.script_tree.specs.Lines.{number_in, name_in, part_at, kind_made, basic_form_made, comp_form_made, object_form_made, fiber_form_made, block_form_made, event_form_made, group_form_made}
 use Rattle.script_tree.specs.Parts.{Part}
 use Rattle.script_tree.specs.Reading.{State, Frame, is_head, is_between, holds_statements, holds_events, is_kind_full, is_deep, declared, fiber_begun, text_begun, stated, leaf_added, block_opened, select_opened, group_opened, part_begun, with_stmt, with_event}
-use Rattle.script_tree.proofs.Nesting.{is_file}
+use Rattle.script_tree.proofs.Nesting.{takes_texts}
 use Rattle.script_tree.proofs.Readings.{ArePartsOf}
-
--- a text may begin in the file that isn't over
-abbrev pub takes_texts : Opener → Bool
-takes_texts opener.Head = true
-takes_texts opener.Between = true
-takes_texts _ = false
 
 -- a statement that is a line of its own
 pub data IsStated (s : State) : Stmt → Type 0 where
@@ -108,7 +102,7 @@ pub data Moves (s : State) : State → Type 0 where
       → Moves s (part_begun s (opener.Otherwise l t r s.top.place))
   begins_catch : (parts : List Part) → ArePartsOf s form.Catch parts → s.top.what ≡ opener.Try
       → Moves s (part_begun s (opener.Catch s.top.place (number_in (part_at parts 0))))
-  ends_text : (f : Frame) (behind : Opener) → s.outer ≡ f ∷ [] → is_file f.what ≡ true → Ends s.top.what behind
+  ends_text : (f : Frame) (behind : Opener) → s.outer ≡ f ∷ [] → takes_texts f.what ≡ true → Ends s.top.what behind
       → Moves s (record s { blocks = slice_set s.blocks s.top.place s.top.stmts; top = record f { what = behind }; outer = [] })
   ends_block : (f : Frame) (fs : List Frame) (x : Stmt) → s.outer ≡ f ∷ fs → holds_statements f.what ≡ true → Becomes s.top.place s.top.what x
       → Moves s (record s { blocks = slice_set s.blocks s.top.place s.top.stmts; top = with_stmt f x; outer = fs })

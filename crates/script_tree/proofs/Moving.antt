@@ -24,8 +24,8 @@ use Rattle.script_tree.specs.declared.program.Test.{Test}
 use Rattle.script_tree.specs.Lines.{line_made, name_in, number_in, part_at, kind_made, block_form_made, group_form_made, event_form_made}
 use Rattle.script_tree.specs.Parts.{Part}
 use Rattle.script_tree.specs.Reading.{State, Frame, after, closed, else_closed, opened, left, part_begun, else_begun, is_head, is_between, is_then, is_try, is_over, holds_statements, holds_events, fits, is_kind_full, is_full, is_line_deep, limit_broken, with_stmt, with_event}
-use Rattle.script_tree.proofs.Moves.{Moves, declares, begins_fiber, begins_main, states, adds_leaf, opens, opens_select, opens_group, begins_else, begins_catch, ends_text, ends_block, ends_select, ends_group, takes_texts, IsStated, basic, on_comps, on_objects, on_fibers, IsBlock, a_block, IsSelect, a_select, IsGroup, a_group, Becomes, a_then, an_else, a_loop, a_handler, a_forbid, a_permit, an_under, a_link, a_protect, a_bundle, a_flock, Groups, a_choose, a_wrap, a_guard, Ends, a_text, the_main}
-use Rattle.script_tree.proofs.Nesting.{is_file, stands_in, Nested, IsNested}
+use Rattle.script_tree.proofs.Moves.{Moves, declares, begins_fiber, begins_main, states, adds_leaf, opens, opens_select, opens_group, begins_else, begins_catch, ends_text, ends_block, ends_select, ends_group, IsStated, basic, on_comps, on_objects, on_fibers, IsBlock, a_block, IsSelect, a_select, IsGroup, a_group, Becomes, a_then, an_else, a_loop, a_handler, a_forbid, a_permit, an_under, a_link, a_protect, a_bundle, a_flock, Groups, a_choose, a_wrap, a_guard, Ends, a_text, the_main}
+use Rattle.script_tree.proofs.Nesting.{is_file, takes_texts, stands_in, Nested, IsNested}
 use Rattle.script_tree.proofs.Paths.{is_bare_else, ends_bare_else, Takes}
 use Rattle.script_tree.proofs.Readings.{ArePartsOf, IsRead, is_read}
 
@@ -52,7 +52,7 @@ is_a_try opener.Try h = refl
 is_a_try _ h = absurd (false≢true h)
 
 -- a block stands in what holds statements, and isn't the file
-becomes_in : (place : ℕ) (o : Opener) (x : Stmt) (around : Opener) → Becomes place o x → stands_in o around ≡ holds_statements around
+pub becomes_in : (place : ℕ) (o : Opener) (x : Stmt) (around : Opener) → Becomes place o x → stands_in o around ≡ holds_statements around
 becomes_in place o x around a_then = refl
 becomes_in place o x around an_else = refl
 becomes_in place o x around a_loop = refl
@@ -65,7 +65,21 @@ becomes_in place o x around a_protect = refl
 becomes_in place o x around a_bundle = refl
 becomes_in place o x around a_flock = refl
 
-becomes_no_file : (place : ℕ) (o : Opener) (x : Stmt) → Becomes place o x → is_file o ≡ false
+-- and holds statements
+pub becomes_holds : (place : ℕ) (o : Opener) (x : Stmt) → Becomes place o x → holds_statements o ≡ true
+becomes_holds place o x a_then = refl
+becomes_holds place o x an_else = refl
+becomes_holds place o x a_loop = refl
+becomes_holds place o x a_handler = refl
+becomes_holds place o x a_forbid = refl
+becomes_holds place o x a_permit = refl
+becomes_holds place o x an_under = refl
+becomes_holds place o x a_link = refl
+becomes_holds place o x a_protect = refl
+becomes_holds place o x a_bundle = refl
+becomes_holds place o x a_flock = refl
+
+pub becomes_no_file : (place : ℕ) (o : Opener) (x : Stmt) → Becomes place o x → is_file o ≡ false
 becomes_no_file place o x a_then = refl
 becomes_no_file place o x an_else = refl
 becomes_no_file place o x a_loop = refl
@@ -88,7 +102,7 @@ groups_no_file members o e a_choose = refl
 groups_no_file members o e a_wrap = refl
 groups_no_file members o e a_guard = refl
 
-ends_in : (o behind around : Opener) → Ends o behind → stands_in o around ≡ is_file around
+ends_in : (o behind around : Opener) → Ends o behind → stands_in o around ≡ takes_texts around
 ends_in o behind around a_text = refl
 ends_in o behind around the_main = refl
 
@@ -96,8 +110,13 @@ ends_no_file : (o behind : Opener) → Ends o behind → is_file o ≡ false
 ends_no_file o behind a_text = refl
 ends_no_file o behind the_main = refl
 
+pub text_file : (o : Opener) → takes_texts o ≡ true → is_file o ≡ true
+text_file opener.Head h = refl
+text_file opener.Between h = refl
+text_file _ h = absurd (false≢true h)
+
 -- nothing stands around the file
-alone : (o around : Opener) → is_file o ≡ true → stands_in o around ≡ false
+pub alone : (o around : Opener) → is_file o ≡ true → stands_in o around ≡ false
 alone opener.Head around h = refl
 alone opener.Between around h = refl
 alone opener.Over around h = refl
@@ -123,9 +142,9 @@ select_ends s number value (f ∷ fs) e n is = ends_select f fs number value e (
 text_ends : (s : State) (behind : Opener) (fs : List Frame) → s.outer ≡ fs → Nested s.top.what fs → Ends s.top.what behind
     → Moves s (left s (slice_set s.blocks s.top.place s.top.stmts) s.events (λ f. record f { what = behind }) fs)
 text_ends s behind [] e n b = absurd (false≢true (sym (ends_no_file _ _ b) ∙ n))
-text_ends s behind (f ∷ []) e n b = ends_text f behind e n.1 b
+text_ends s behind (f ∷ []) e n b = ends_text f behind e (sym (ends_in s.top.what behind f.what b) ∙ n.0) b
 text_ends s behind (f ∷ g ∷ fs) e n b =
-    absurd (false≢true (sym (alone f.what g.what (sym (ends_in s.top.what behind f.what b) ∙ n.0)) ∙ n.1.0))
+    absurd (false≢true (sym (alone f.what g.what (text_file f.what (sym (ends_in s.top.what behind f.what b) ∙ n.0))) ∙ n.1.0))
 
 else_ends : (s : State) (l : Operand) (t : Test) (r : Operand) (place : ℕ) (xs : List Stmt) → IsNested s
     → s.top.what ≡ opener.Otherwise l t r place → is_bare_else (opener.Otherwise l t r place) xs ≡ false → Moves s (else_closed s l t r place xs)

@@ -11,13 +11,19 @@ is_file opener.Between = true
 is_file opener.Over = true
 is_file _ = false
 
+-- a text may begin in the file that isn't over
+abbrev pub takes_texts : Opener → Bool
+takes_texts opener.Head = true
+takes_texts opener.Between = true
+takes_texts _ = false
+
 -- what may be open around something
 abbrev pub stands_in : Opener → Opener → Bool
 stands_in opener.Head around = false
 stands_in opener.Between around = false
 stands_in opener.Over around = false
-stands_in opener.Text around = is_file around
-stands_in opener.Main around = is_file around
+stands_in opener.Text around = takes_texts around
+stands_in opener.Main around = takes_texts around
 stands_in opener.Choose around = holds_events around
 stands_in (opener.Wrap o) around = holds_events around
 stands_in (opener.Guard l t r) around = holds_events around

@@ -18,6 +18,7 @@ use Rattle.script_tree.specs.declared.program.Stmt.TheVariants as stmt
 use Rattle.script_tree.specs.declared.program.Text.{Text}
 use Rattle.script_tree.specs.declared.thing.Sort.TheVariants as sort
 use Rattle.script_tree.specs.Forms.{shapes}
+use Rattle.script_tree.specs.Grammar.{IsScript}
 use Rattle.script_tree.specs.Lines.{stmt_form, stmt_parts, opener_form, opener_parts, tree_form, event_parts}
 use Rattle.script_tree.specs.Names.{sort_of, sort_number}
 use Rattle.script_tree.specs.Parts.{Part, number_part, operand_part, comp_part, test_part, name_part, Shape, a_register, a_value, a_number, a_key, a_promise, a_comp, a_test, a_new_name, a_fillable, a_place}
@@ -159,3 +160,8 @@ pub record IsWellFormed (tree : Tree) : Type 0 where
   pub events : (place : ℕ) (e : EventTree) → slice_get tree.events place ≡ Some e → EventFits tree place e
   pub names : AreDistinct (names tree)
   pub limits : KeepsLimits tree
+
+-- what each program is: what some text is, and well-formed. It has a constructor in place of fields, so that a search
+-- doesn't go through all of this in each function that has a program.
+pub data IsProgram (tree : Tree) : Type 0 where
+  a_program : IsScript tree → IsWellFormed tree → IsProgram tree

@@ -3,7 +3,8 @@
 //! It stands on `script_text` for the words of a text. The layers above use `parse`, which answers
 //! exactly `grammar` of `specs/Grammar.antt`: the program that a text is, or the line and the cause
 //! of its first fault; and `show`, which answers `canon` of `specs/Canon.antt`. They see a program
-//! as a `Tree` of `specs/Tree.antt`.
+//! as a `Tree` of `specs/Tree.antt`, and each `Program` is well-formed: what that means is
+//! `IsWellFormed` of `specs/WellFormed.antt`.
 //!
 //! A line form has one row in each of these tables: its variant, its word and its parts
 //! (`form.rt`, `specs/Forms.antt`), what is read (`statement.rt`, `opening.rt` or `line.rt`, with

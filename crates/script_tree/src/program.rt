@@ -206,8 +206,10 @@ impl Model for Block {
     ghost view = { λ b. b.stmts.items };
 }
 
-/// A script that was read: each program is what some text is. The main text is the last of
-/// `texts`.
+/// A script that was read: each program is what some text is, and well-formed. Its numbers are in
+/// their ranges, places and names are those of things of the kind that is wanted there, inner
+/// blocks and members of groups stand behind what holds them, and no limit is broken. The main
+/// text is the last of `texts`.
 #[derive(Drop)]
 pub struct Program {
     pub decls: Vec<Decl>,
@@ -221,11 +223,11 @@ impl Model for Program {
 
     ghost Value = { Tree };
 
-    ghost use Rattle.script_tree.specs.Grammar.{IsScript};
+    ghost use Rattle.script_tree.specs.WellFormed.{IsProgram};
 
     ghost view = { λ p. record { decls = p.decls.items; texts = p.texts.items; blocks = p.blocks.items; events = p.events.items } };
 
-    ghost invariant = { λ p. IsScript (record { decls = p.decls.items; texts = p.texts.items; blocks = p.blocks.items; events = p.events.items }) };
+    ghost invariant = { λ p. IsProgram (record { decls = p.decls.items; texts = p.texts.items; blocks = p.blocks.items; events = p.events.items }) };
 }
 
 /// The greatest number that a script computes with.

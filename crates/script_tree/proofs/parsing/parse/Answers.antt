@@ -1,4 +1,5 @@
 use Rattle.std.proofs.Common.{length, arith}
+use Rattle.script_tree.proofs.Formed.{script_program, well_formed}
 use Rattle.script_tree.proofs.Goings.{whole}
 use Rattle.script_tree.proofs.Spanning.{apart_within, apart_few, lines_few}
 use Rattle.script_tree.proofs.parsing.parse.Goals as goal
@@ -14,7 +15,14 @@ read_script-requires-clause-few c =
     rw c.deref.ensures.value (omega (arith, c.requires, apart_few 0 (length c.args.text.now) c.in-Ok.found.words.items (omega arith) c.in-Ok.ensures.apart))
 
 pub invariant_of-result : goal.invariant_of-result
-invariant_of-result c = (
+invariant_of-result c = script_program (
+  c.args.text.now,
+  whole c.args.text.now c.in-Ok.found.words.items c.in-Ok.found.lines _ c.in-Ok.ensures.faultless c.in-Ok.ensures.rows c.in-Ok.ensures.count
+      (rw c.deref.ensures.value at c.in-Ok-read_script.ensures.program),
+)
+
+pub returns-in-Ok-read_script-clause-formed : goal.returns-in-Ok-read_script-clause-formed
+returns-in-Ok-read_script-clause-formed c = well_formed _ (
   c.args.text.now,
   whole c.args.text.now c.in-Ok.found.words.items c.in-Ok.found.lines _ c.in-Ok.ensures.faultless c.in-Ok.ensures.rows c.in-Ok.ensures.count
       (rw c.deref.ensures.value at c.in-Ok-read_script.ensures.program),

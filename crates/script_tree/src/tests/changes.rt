@@ -49,9 +49,9 @@ fn refusal_behind(line: &str, number: u32) -> ParseRefusal {
 #[test]
 fn a_script_needs_each_of_its_lines(rt: HostRuntime) -> Result<(), Fail> {
     let mut front = String::new(rt.alloc());
-    let mut number = 0;
+    let mut number = 0u32;
     for line in EVERY_FORM.lines() {
-        number += 1;
+        number = number.saturating_add(1);
         front.push_str(line)?;
         let open = read(rt.alloc(), front.as_bytes()).err();
         front.push_str("\n")?;

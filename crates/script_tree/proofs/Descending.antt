@@ -37,15 +37,15 @@ new_descend : (blocks : List (List Stmt)) (f : Frame) (fs : List Frame) → f.pl
     → Descends (length (blocks ++ [] ∷ [])) (open_blocks (f ∷ fs))
 new_descend blocks f fs e d =
     rw length-append
-        (outer_descend (length blocks + 1) f.place (open_blocks fs) (holds_statements f.what) (omega (arith, e))
-            (descends_up (length blocks) f.place (open_blocks fs) (omega (arith, e)) d))
+    (outer_descend (length blocks + 1) f.place (open_blocks fs) (holds_statements f.what) (omega (arith, e))
+    (descends_up (length blocks) f.place (open_blocks fs) (omega (arith, e)) d))
 
 -- the second part of a block opens
 part_descend : (s : State) (o : Opener) → BlocksDescend s
     → Descends (length (set s.blocks s.top.place s.top.stmts ++ [] ∷ [])) (open_blocks (record s.top { what = o; place = length s.blocks; stmts = [] } ∷ s.outer))
 part_descend s o d =
     new_descend (set s.blocks s.top.place s.top.stmts) (record s.top { what = o; place = length s.blocks; stmts = [] }) s.outer (sym (length-set s.blocks s.top.place s.top.stmts))
-        (rw length-set (around_descend (length s.blocks) s.top s.outer d))
+    (rw length-set (around_descend (length s.blocks) s.top s.outer d))
 
 -- what is open ends
 end_descend : (s : State) (f : Frame) (fs : List Frame) → s.outer ≡ f ∷ fs → BlocksDescend s → Descends (length s.blocks) (open_blocks (f ∷ fs))

@@ -87,9 +87,9 @@ lettered_fits word of digits h = either_fits word (is_numeral digits) (of (digit
 class_fits : (word : List ℕ) → ClassFits word (class word)
 class_fits word =
     either_fits word (is_numeral word) _ _ (number_fits word _ _ refl)
-        (either_fits word (is_lettered 114 word) _ _ (lettered_fits word register_class (drop 1 word) (register_fits word (digits_value 10 (drop 1 word)) _ refl))
-            (either_fits word (is_lettered 112 word) _ _ (lettered_fits word promise_class (drop 1 word) (promise_fits word (digits_value 10 (drop 1 word)) _ refl))
-                (name_fits word _ refl)))
+    (either_fits word (is_lettered 114 word) _ _ (lettered_fits word register_class (drop 1 word) (register_fits word (digits_value 10 (drop 1 word)) _ refl))
+    (either_fits word (is_lettered 112 word) _ _ (lettered_fits word promise_class (drop 1 word) (promise_fits word (digits_value 10 (drop 1 word)) _ refl))
+    (name_fits word _ refl)))
 
 -- ---- parts
 
@@ -227,7 +227,7 @@ no_part tree shape q c e = cc
 tests_are : (tree : Tree) (word : List ℕ) (q : Part) → test_read word ≡ Ok q → PartIs tree a_test q
 tests_are tree word q =
     test_is tree test.Eq _ _ q (test_is tree test.Ne _ _ q (test_is tree test.Lt _ _ q (test_is tree test.Le _ _ q
-        (test_is tree test.Gt _ _ q (test_is tree test.Ge _ _ q (no_part tree a_test q cause.Word))))))
+    (test_is tree test.Gt _ _ q (test_is tree test.Ge _ _ q (no_part tree a_test q cause.Word))))))
 
 -- ---- words
 

@@ -47,7 +47,6 @@ record IsBehind (s : State) : Type 0 where
 
 module _ (s : State) (tree : Tree) (n : IsNested s) (d : BlocksDescend s) (g : GroupsDescend s) (known : NamesFit tree s.names) (l : LastsIn s tree)
     (h : Holds s tree) where
-
   -- ---- blocks
 
   block_behind : (o : Opener) (fs : List Frame) → holds_statements s.top.what ≡ true → is_file o ≡ false
@@ -88,34 +87,43 @@ module _ (s : State) (tree : Tree) (n : IsNested s) (d : BlocksDescend s) (g : G
 
   -- a statement stands in what is open
   with_stmt_holds : (f : Frame) (fs : List Frame) (x : Stmt) → StmtFits tree f.place x → FramesFit tree (f ∷ fs) → FramesFit tree (with_stmt f x ∷ fs)
-  with_stmt_holds f fs x fits frames = (record {
-    what = frames.0.what;
-    stmts = all_push (StmtFits tree f.place) f.stmts x frames.0.stmts fits;
-    events = frames.0.events;
-    members = frames.0.members;
-  }, frames.1)
+  with_stmt_holds f fs x fits frames = (
+    record {
+      what = frames.0.what;
+      stmts = all_push (StmtFits tree f.place) f.stmts x frames.0.stmts fits;
+      events = frames.0.events;
+      members = frames.0.members;
+    },
+    frames.1,
+  )
 
   -- an event stands in what is open
   with_event_holds : (f : Frame) (fs : List Frame) (place : ℕ) → IsEvent tree place → (is_group f.what ≡ true → f.place < place) → FramesFit tree (f ∷ fs)
       → FramesFit tree (with_event f place ∷ fs)
-  with_event_holds f fs place is behind frames = (record {
-    what = frames.0.what;
-    stmts = frames.0.stmts;
-    events = all_push (IsEvent tree) f.events place frames.0.events is;
-    members = λ group. all_push (λ k. (f.place < k) × IsEvent tree k) f.events place (frames.0.members group) (behind group, is);
-  }, frames.1)
+  with_event_holds f fs place is behind frames = (
+    record {
+      what = frames.0.what;
+      stmts = frames.0.stmts;
+      events = all_push (IsEvent tree) f.events place frames.0.events is;
+      members = λ group. all_push (λ k. (f.place < k) × IsEvent tree k) f.events place (frames.0.members group) (behind group, is);
+    },
+    frames.1,
+  )
 
   -- what is around what is open
   around : (f : Frame) (fs : List Frame) → s.outer ≡ f ∷ fs → FramesFit tree (f ∷ fs)
   around f fs e = subst (λ gs. FramesFit tree gs) e h.frames.1
 
   behind_text : (f : Frame) (behind : Opener) → Ends s.top.what behind → FramesFit tree (f ∷ []) → FramesFit tree (record f { what = behind } ∷ [])
-  behind_text f behind ends frames = (record {
-    what = behind_text_fits tree 0 s.top.what behind ends;
-    stmts = frames.0.stmts;
-    events = frames.0.events;
-    members = λ is. absurd (false≢true (sym (behind_no_group s.top.what behind ends) ∙ is));
-  }, tt)
+  behind_text f behind ends frames = (
+    record {
+      what = behind_text_fits tree 0 s.top.what behind ends;
+      stmts = frames.0.stmts;
+      events = frames.0.events;
+      members = λ is. absurd (false≢true (sym (behind_no_group s.top.what behind ends) ∙ is));
+    },
+    tt,
+  )
 
   becomes_behind : (x : Stmt) → Becomes s.top.place s.top.what x → IsBehind s
   becomes_behind x b =
@@ -126,7 +134,7 @@ module _ (s : State) (tree : Tree) (n : IsNested s) (d : BlocksDescend s) (g : G
   block_ended f fs x e b =
       let holder : place_around s.outer ≡ f.place = ap place_around e in
       becomes_fits tree f.place s.top.place s.top.what x b (subst (λ k. OpenFits tree k s.top.what) holder h.frames.0.what)
-          (inner_block f.place holder (becomes_behind x b))
+      (inner_block f.place holder (becomes_behind x b))
 
   select_ended : (f : Frame) (number value : ℕ) → s.top.what ≡ opener.Select number value → StmtFits tree f.place (stmt.Select number value s.top.events)
   select_ended f number value is = (subst (λ o. OpenFits tree (place_around s.outer) o) is h.frames.0.what, h.frames.0.events)
@@ -143,18 +151,20 @@ module _ (s : State) (tree : Tree) (n : IsNested s) (d : BlocksDescend s) (g : G
 
   else_open : (a : Operand) (q : Test) (b : Operand) → s.top.what ≡ opener.Then a q b
       → OpenFits tree (place_around s.outer) (opener.Otherwise a q b s.top.place)
-  else_open a q b is =
-      (subst (λ o. OpenFits tree (place_around s.outer) o) is h.frames.0.what,
-       inner_block (place_around s.outer) refl
-           (is_behind (ap holds_statements is) (ap is_file is)
-               (λ around. ap (λ o. stands_in o around) is)))
+  else_open a q b is = (
+    subst (λ o. OpenFits tree (place_around s.outer) o) is h.frames.0.what,
+    inner_block (place_around s.outer) refl
+        (is_behind (ap holds_statements is) (ap is_file is)
+        (λ around. ap (λ o. stands_in o around) is)),
+  )
 
   catch_open : (register : ℕ) → register < 16 → s.top.what ≡ opener.Try → OpenFits tree (place_around s.outer) (opener.Catch s.top.place register)
-  catch_open register small is =
-      (small,
-       inner_block (place_around s.outer) refl
-           (is_behind (ap holds_statements is) (ap is_file is)
-               (λ around. ap (λ o. stands_in o around) is)))
+  catch_open register small is = (
+    small,
+    inner_block (place_around s.outer) refl
+        (is_behind (ap holds_statements is) (ap is_file is)
+        (λ around. ap (λ o. stands_in o around) is)),
+  )
 
   new_event : (events : ℕ) → length s.events + 1 ≡ events → events ≤ length tree.events → IsEvent tree (length s.events)
   new_event events e le = omega (arith, e, le)
@@ -175,20 +185,29 @@ module _ (s : State) (tree : Tree) (n : IsNested s) (d : BlocksDescend s) (g : G
   moves_hold (opens o p holds full) m = record {
     blocks = with_block;
     events = h.events;
-    frames = (empty_fits tree s.top.place (frame o (length s.blocks) (inside s.top.level o))
-        (block_opens_fit s tree s.top.place o p (opened_fits s tree o known p)) refl refl, h.frames);
+    frames = (
+      empty_fits tree s.top.place (frame o (length s.blocks) (inside s.top.level o))
+          (block_opens_fit s tree s.top.place o p (opened_fits s tree o known p)) refl refl,
+      h.frames,
+    );
   }
   moves_hold (opens_select o p holds full) m = record {
     blocks = h.blocks;
     events = h.events;
-    frames = (empty_fits tree s.top.place (frame o 0 (inside s.top.level o))
-        (select_opens_fit s tree s.top.place o p (select_fits s tree o known p)) refl refl, h.frames);
+    frames = (
+      empty_fits tree s.top.place (frame o 0 (inside s.top.level o))
+          (select_opens_fit s tree s.top.place o p (select_fits s tree o known p)) refl refl,
+      h.frames,
+    );
   }
   moves_hold (opens_group o p holds) m = record {
     blocks = h.blocks;
     events = push_keeps (λ place e. EventFits tree place e) s.events (event.Choose []) h.events tt;
-    frames = (empty_fits tree s.top.place (frame o (length s.events) (inside s.top.level o))
-        (group_opens_fit s tree s.top.place o p (group_fits s tree o known p)) refl refl, h.frames);
+    frames = (
+      empty_fits tree s.top.place (frame o (length s.events) (inside s.top.level o))
+          (group_opens_fit s tree s.top.place o p (group_fits s tree o known p)) refl refl,
+      h.frames,
+    );
   }
   moves_hold (begins_else a q b is) m =
       record { blocks = with_part; events = h.events; frames = part_holds (opener.Otherwise a q b s.top.place) (else_open a q b is) refl }

@@ -103,10 +103,10 @@ same_mains s t (main_begun text name e b a) l =
 knows_same : (s t : State) → t.names ≡ s.names → t.decls ≡ s.decls → t.texts ≡ s.texts → TextsMove s t → Knows s → Knows t
 knows_same s t n d x m (before_main z e) =
     before_main (same_mains s t m (ap (λ (ts : List Text). length ts) x) ∙ z)
-        (ap bytes_of n ∙ e ∙ ap (λ ds. known ds s.texts) (sym d) ∙ ap (λ ts. known t.decls ts) (sym x))
+    (ap bytes_of n ∙ e ∙ ap (λ ds. known ds s.texts) (sym d) ∙ ap (λ ts. known t.decls ts) (sym x))
 knows_same s t n d x m (with_main fibers main o texts name e) =
     with_main fibers main (same_mains s t m (ap (λ (ts : List Text). length ts) x) ∙ o) (x ∙ texts) name
-        (ap bytes_of n ∙ e ∙ ap (λ ds. known ds fibers) (sym d))
+    (ap bytes_of n ∙ e ∙ ap (λ ds. known ds fibers) (sym d))
 
 bytes_push : (names : List Named) (n : Named) → bytes_of (names ++ n ∷ []) ≡ bytes_of names ++ n.bytes ∷ []
 bytes_push names n = map-append (λ (m : Named). m.bytes) names (n ∷ [])
@@ -115,19 +115,19 @@ bytes_push names n = map-append (λ (m : Named). m.bytes) names (n ∷ [])
 with_decl : (decls : List Decl) (texts : List Text) (d : Decl) → texts ≡ [] → known decls texts ++ d.name ∷ [] ≡ known (decls ++ d ∷ []) texts
 with_decl decls texts d none =
     let behind : (decl_names decls ++ text_names texts) ++ d.name ∷ [] ≡ decl_names (decls ++ d ∷ []) ++ text_names texts =
-        ap (λ (ts : List Text). (decl_names decls ++ text_names ts) ++ d.name ∷ []) none
-        ∙ ap (λ (xs : List (List ℕ)). xs ++ d.name ∷ []) (append-nil (decl_names decls))
-        ∙ sym (map-append (λ (e : Decl). e.name) decls (d ∷ []))
-        ∙ sym (append-nil (decl_names (decls ++ d ∷ [])))
-        ∙ ap (λ (ts : List Text). decl_names (decls ++ d ∷ []) ++ text_names ts) (sym none) in
+    ap (λ (ts : List Text). (decl_names decls ++ text_names ts) ++ d.name ∷ []) none
+    ∙ ap (λ (xs : List (List ℕ)). xs ++ d.name ∷ []) (append-nil (decl_names decls))
+    ∙ sym (map-append (λ (e : Decl). e.name) decls (d ∷ []))
+    ∙ sym (append-nil (decl_names (decls ++ d ∷ [])))
+    ∙ ap (λ (ts : List Text). decl_names (decls ++ d ∷ []) ++ text_names ts) (sym none) in
     ap (λ (xs : List (List ℕ)). codes "root" ∷ (codes "main" ∷ xs)) behind
 
 -- a text comes behind the others
 with_text : (decls : List Decl) (texts : List Text) (t : Text) → known decls texts ++ t.name ∷ [] ≡ known decls (texts ++ t ∷ [])
 with_text decls texts t =
     ap (λ (xs : List (List ℕ)). codes "root" ∷ (codes "main" ∷ xs))
-        (append_assoc (decl_names decls) (text_names texts) (t.name ∷ [])
-         ∙ ap (λ (xs : List (List ℕ)). decl_names decls ++ xs) (sym (map-append (λ (u : Text). u.name) texts (t ∷ []))))
+    (append_assoc (decl_names decls) (text_names texts) (t.name ∷ [])
+    ∙ ap (λ (xs : List (List ℕ)). decl_names decls ++ xs) (sym (map-append (λ (u : Text). u.name) texts (t ∷ []))))
 
 pub moves_know : (s : State) {t : State} → Moves s t → TextsMove s t → IsNested s → HeadIsFirst s → Knows s → Knows t
 moves_know s (declares f parts p h full) m n first k =
@@ -157,8 +157,8 @@ pub distinct_names : (s : State) → main_count s ≡ 1 → AreDistinct (bytes_o
 distinct_names s one d (before_main z e) = let bad : 1 ≤ 0 = omega (arith, z, one) in absurd (not-suc-le-zero bad)
 distinct_names s one d (with_main fibers main o texts name e) =
     let last : text_names s.texts ≡ text_names fibers ++ codes "main" ∷ [] =
-        ap text_names texts ∙ map-append (λ (u : Text). u.name) fibers (main ∷ []) ∙ ap (λ w. text_names fibers ++ w ∷ []) name in
+    ap text_names texts ∙ map-append (λ (u : Text). u.name) fibers (main ∷ []) ∙ ap (λ w. text_names fibers ++ w ∷ []) name in
     let all : (decl_names s.decls ++ text_names fibers) ++ codes "main" ∷ [] ≡ decl_names s.decls ++ text_names s.texts =
-        append_assoc (decl_names s.decls) (text_names fibers) (codes "main" ∷ []) ∙ ap (λ xs. decl_names s.decls ++ xs) (sym last) in
+    append_assoc (decl_names s.decls) (text_names fibers) (codes "main" ∷ []) ∙ ap (λ xs. decl_names s.decls ++ xs) (sym last) in
     subst (λ xs. AreDistinct (codes "root" ∷ xs)) all
-        (second_last (codes "root") (codes "main") (decl_names s.decls ++ text_names fibers) (subst (λ ns. AreDistinct ns) e d))
+    (second_last (codes "root") (codes "main") (decl_names s.decls ++ text_names fibers) (subst (λ ns. AreDistinct ns) e d))

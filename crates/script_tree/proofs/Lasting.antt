@@ -121,17 +121,17 @@ declared_fits : (tree : Tree) (decls others : List Decl) (d : Decl) → tree.dec
 declared_fits tree decls others d e =
     let at : slice_get tree.decls (length decls) ≡ Some d = ap (λ (ds : List Decl). slice_get ds (length decls)) e ∙ at_end decls d others in
     decl_place tree d.kind (length decls)
-        (subst (λ o. IsOfSort (λ n. n == sort_number (sort_of d.kind)) o) (sym at) (eq-eqb (sort_number (sort_of d.kind)) _ refl))
+    (subst (λ o. IsOfSort (λ n. n == sort_number (sort_of d.kind)) o) (sym at) (eq-eqb (sort_number (sort_of d.kind)) _ refl))
 
 pub moves_names : (s : State) {t : State} (tree : Tree) → Moves s t → IsNested s → LastsIn t tree → NamesFit tree s.names → NamesFit tree t.names
 moves_names s tree (declares f parts p h full) n l names =
     all_push (λ (m : Named). ThingFits tree m.thing) s.names _ names
-        (declared_fits tree s.decls l.more (record { name = name_in (part_at parts 0); kind = kind_made f parts }) l.decls)
+    (declared_fits tree s.decls l.more (record { name = name_in (part_at parts 0); kind = kind_made f parts }) l.decls)
 moves_names s tree (begins_fiber parts p h full) n l names =
     all_push (λ (m : Named). ThingFits tree m.thing) s.names _ names
-        (let none = file_mains s.top.what s.outer h n in
-         let more = length-append s.texts (record { name = name_in (part_at parts 0); block = length s.blocks } ∷ []) in
-         let fits = l.texts in omega (arith, fits, none, more))
+    (let none = file_mains s.top.what s.outer h n in
+    let more = length-append s.texts (record { name = name_in (part_at parts 0); block = length s.blocks } ∷ []) in
+    let fits = l.texts in omega (arith, fits, none, more))
 moves_names s tree (begins_main h) n l names = names
 moves_names s tree (states x p h full) n l names = names
 moves_names s tree (adds_leaf f parts p h) n l names = names

@@ -242,4 +242,4 @@ moves s t words l taken bare n =
     let r = is_read s words l taken.read in
     let p : ArePartsOf s r.form r.parts = record { words = r.rest; read = r.read } in
     subst (λ u. Moves s u) (ap (λ k. after s k) r.is ∙ sym taken.is)
-        (made_moves s r.form r.parts p r.fit (ap (λ k. is_full s k) r.is ∙ not_full s l taken.within) (ap (λ k. ends_bare_else s k) r.is ∙ bare) n)
+    (made_moves s r.form r.parts p r.fit (ap (λ k. is_full s k) r.is ∙ not_full s l taken.within) (ap (λ k. ends_bare_else s k) r.is ∙ bare) n)

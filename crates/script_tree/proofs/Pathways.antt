@@ -183,7 +183,7 @@ end_without s t l q r words n is taken =
     let read = is_read (with_else s l q r) words line.End taken.read in
     let form_is = ends_made read.form read.parts read.is in
     let fit : fits s.top.what s.top.level.breaks read.form ≡ true =
-        ap (λ f. fits s.top.what s.top.level.breaks f) form_is ∙ ap (λ o. fits o s.top.level.breaks form.End) is in
+    ap (λ f. fits s.top.what s.top.level.breaks f) form_is ∙ ap (λ o. fits o s.top.level.breaks form.End) is in
     record {
       read = reads_as s words read.form read.rest read.parts (ap is_over is) read.told fit read.read ∙ ap (λ k. Ok k) read.is;
       within = refl;
@@ -193,8 +193,8 @@ end_without s t l q r words n is taken =
 bare_ends : (s t : State) (words : List (List ℕ)) → Takes s words line.End t → BeganBare s → Reached t
 bare_ends s t words taken b =
     reached_on b.before t b.lines words line.End b.path
-        (end_without b.before t b.left b.test b.right words (path_nested b.before b.lines b.path) b.what (subst (λ u. Takes u words line.End t) b.is taken))
-        (ap (λ o. is_bare_else o b.before.top.stmts) b.what)
+    (end_without b.before t b.left b.test b.right words (path_nested b.before b.lines b.path) b.what (subst (λ u. Takes u words line.End t) b.is taken))
+    (ap (λ o. is_bare_else o b.before.top.stmts) b.what)
 
 bare_end : (s : State) (l : Line) → ends_bare_else s l ≡ true → (l ≡ line.End) × IsBare s
 bare_end s line.End h = (refl, h)

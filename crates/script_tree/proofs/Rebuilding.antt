@@ -42,9 +42,10 @@ rebuilt_from tree i [] all (p ∷ ps) at f = absurd f
 rebuilt_from tree i (s ∷ ss) all [] at f = absurd f
 rebuilt_from tree i (s ∷ ss) all (p ∷ ps) at f =
     let here : part_at all i ≡ p = ap (λ j. part_at all j) (sym (add-zero i)) ∙ at 0 in
-    let is : again s (part_at all i) ≡ p = ap (λ q. again s q) here ∙ f.0.same in
-    (subst (λ q. PartFits tree s q) (sym is) f.0.fits,
-     rebuilt_from tree (i + 1) ss all ps (λ k. ap (λ j. part_at all j) (let e : (i + 1) + k ≡ i + suc k = omega arith in e) ∙ at (suc k)) f.1)
+    let is : again s (part_at all i) ≡ p = ap (λ q. again s q) here ∙ f.0.same in (
+      subst (λ q. PartFits tree s q) (sym is) f.0.fits,
+      rebuilt_from tree (i + 1) ss all ps (λ k. ap (λ j. part_at all j) (let e : (i + 1) + k ≡ i + suc k = omega arith in e) ∙ at (suc k)) f.1,
+    )
 
 pub rebuilt_fits : (tree : Tree) (ss : List Shape) (ps : List Part) → PartsAre tree ss ps → PartsFit tree ss (rebuilt 0 ss ps)
 rebuilt_fits tree ss ps f = rebuilt_from tree 0 ss ps ps (λ k. ap (λ j. part_at ps j) (let e : 0 + k ≡ k = omega arith in e)) f

@@ -23,6 +23,7 @@ pub mod Knowing
 pub mod KnownNames
 pub mod Lasting
 pub mod Leads
+pub mod Levels
 pub mod Made
 pub mod Mains
 pub mod Moves

@@ -12,7 +12,7 @@ use Rattle.script_tree.specs.declared.program.Text.{Text}
 use Rattle.script_tree.specs.Grammar.{IsScript, tree_of}
 use Rattle.script_tree.specs.Reading.{State, Frame, start, is_over}
 use Rattle.script_tree.specs.Tree.{Tree}
-use Rattle.script_tree.specs.WellFormed.{IsWellFormed, IsProgram, a_program, KeepsLimits, AreDistinct}
+use Rattle.script_tree.specs.WellFormed.{IsWellFormed, IsProgram, KeepsLimits, AreDistinct}
 use Rattle.script_tree.proofs.Counting.{FewDecls, FewTexts, moves_decls, moves_texts}
 use Rattle.script_tree.proofs.Declaring.{Declares, moves_declare, MainIsLast, main_last}
 use Rattle.script_tree.proofs.Descending.{moves_descend}
@@ -166,12 +166,6 @@ pub well_formed : (tree : Tree) → IsScript tree → IsWellFormed tree
 well_formed tree script =
     let way = path_of tree script in subst (λ t. IsWellFormed t) way.is (formed way.state way.lines way.path way.over)
 
--- what a program is
-pub script_of : {tree : Tree} → IsProgram tree → IsScript tree
-script_of (a_program script formed) = script
-
-pub formed_of : {tree : Tree} → IsProgram tree → IsWellFormed tree
-formed_of (a_program script formed) = formed
-
-pub script_program : {tree : Tree} → IsScript tree → IsProgram tree
-script_program {tree} script = a_program script (well_formed tree script)
+-- what some text is, is a program
+pub is_program : (tree : Tree) → IsScript tree → IsProgram tree
+is_program tree script = record { script = script; formed = well_formed tree script }

@@ -161,7 +161,7 @@ pub record IsWellFormed (tree : Tree) : Type 0 where
   pub names : AreDistinct (names tree)
   pub limits : KeepsLimits tree
 
--- what each program is: what some text is, and well-formed. It has a constructor in place of fields, so that a search
--- doesn't go through all of this in each function that has a program.
-pub data IsProgram (tree : Tree) : Type 0 where
-  a_program : IsScript tree → IsWellFormed tree → IsProgram tree
+-- what each program is: what some text is, and well-formed
+pub record IsProgram (tree : Tree) : Type 0 where
+  pub script : IsScript tree
+  pub formed : IsWellFormed tree

@@ -1,5 +1,5 @@
 use Rattle.std.proofs.Common.{length, arith}
-use Rattle.script_tree.proofs.Formed.{script_program, well_formed}
+use Rattle.script_tree.proofs.Formed.{is_program, well_formed}
 use Rattle.script_tree.proofs.Goings.{whole}
 use Rattle.script_tree.proofs.Spanning.{apart_within, apart_few, lines_few}
 use Rattle.script_tree.proofs.parsing.parse.Goals as goal
@@ -15,7 +15,7 @@ read_script-requires-clause-few c =
     rw c.deref.ensures.value (omega (arith, c.requires, apart_few 0 (length c.args.text.now) c.in-Ok.found.words.items (omega arith) c.in-Ok.ensures.apart))
 
 pub invariant_of-result : goal.invariant_of-result
-invariant_of-result c = script_program (
+invariant_of-result c = is_program _ (
   c.args.text.now,
   whole c.args.text.now c.in-Ok.found.words.items c.in-Ok.found.lines _ c.in-Ok.ensures.faultless c.in-Ok.ensures.rows c.in-Ok.ensures.count
       (rw c.deref.ensures.value at c.in-Ok-read_script.ensures.program),

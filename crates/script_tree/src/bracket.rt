@@ -1,3 +1,5 @@
+//! How the lines that begin and end blocks, selects and groups of events are written, and those of
+//! single events.
 ghost use Rattle.std.specs.Prelude.{◌≡◌, ◌++◌, OnOk, string_bytes};
 ghost use Rattle.script_tree.specs.Canon.{opening, ending, form_line};
 ghost use Rattle.script_tree.specs.Lines.{tree_form, event_parts};

@@ -1,3 +1,4 @@
+//! The canonical text of a whole program.
 ghost use Rattle.std.specs.Prelude.{◌≡◌, ◌++◌, ◌∷◌, [], Ok, OnOk, IfOk, List, string_bytes, flat_map};
 ghost use Rattle.script_tree.specs.Canon.{decl_text, text_line, text_text, texts_text, canon};
 ghost use Rattle.script_tree.specs.Grammar.{grammar};

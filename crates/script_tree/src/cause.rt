@@ -1,3 +1,4 @@
+//! Why a script is refused, and the number that tells it.
 ghost use Rattle.std.specs.Prelude.{◌≡◌};
 
 /// Why a script is refused.

@@ -1,3 +1,4 @@
+//! What a word is by its bytes alone: a number, a register, a promise register or a name.
 ghost use Rattle.std.specs.Prelude.{◌≡◌, ◌<◌, ◌^◌, true, length, SomeIff, drop, IsTrue};
 ghost use Rattle.std.specs.Str.{all_ascii_digits};
 ghost use Rattle.std.specs.Str.Parse.{digits_value};

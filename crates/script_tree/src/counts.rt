@@ -1,3 +1,4 @@
+//! How much a script has of what is limited.
 /// How much of each kind a script has so far. Objects are all that is declared but triggers and
 /// computations; leaves are the events of the last select.
 #[derive(Clone, Copy)]

@@ -1,3 +1,4 @@
+//! Why a line is not taken: its cause, or want of memory.
 use crate::cause::Cause;
 use pic_base::Memory;
 

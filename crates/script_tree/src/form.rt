@@ -1,3 +1,4 @@
+//! The forms of lines, and the words that tell them apart.
 ghost use Rattle.std.specs.Prelude.{◌≡◌, bytes_eq};
 ghost use Rattle.script_tree.specs.Forms.{keyword, first_form, form_of as form_of_in, event_of as event_of_in};
 ghost use Rattle.script_tree.specs.Slices.{words_of, seen_of};

@@ -1,3 +1,4 @@
+//! How deep a line stands, and how deep one may.
 ghost use Rattle.std.specs.Prelude.{◌≡◌, ◌+◌, ◌<◌, false};
 ghost use Rattle.script_tree.specs.Reading.{breaks_in, bundle_count, is_deep as is_deep_in};
 

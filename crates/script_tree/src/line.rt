@@ -1,3 +1,4 @@
+//! Lines that were read: one call for every form, and the declarations.
 ghost use Rattle.std.specs.Prelude.{◌≡◌, ◌∷◌, [], Some, Ok, Err, IfOk, MatchResult};
 ghost use Rattle.script_tree.specs.Forms.{shapes, decl_form_shapes};
 ghost use Rattle.script_tree.specs.Lines.{line_form, line_parts};

@@ -1,3 +1,4 @@
+//! Which names are known, and what each stands for.
 ghost use Rattle.std.specs.Prelude.{◌≡◌, ◌++◌, ◌∷◌, [], None, IfOk, OnOk, OnErr};
 ghost use Rattle.script_tree.specs.Names.{thing_of, first_names};
 

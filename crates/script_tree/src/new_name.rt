@@ -1,3 +1,4 @@
+//! Words that become names.
 use std::marker::Model;
 
 /// A word of the script that is to become a name, seen as its bytes, which are

@@ -1,3 +1,4 @@
+//! What is open while a script is read, with what it holds so far.
 ghost use Rattle.std.specs.Prelude.{◌≡◌, []};
 ghost use Rattle.script_tree.specs.Stand.{frame_of};
 

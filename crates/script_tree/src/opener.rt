@@ -1,3 +1,4 @@
+//! What lines open, and which forms may stand in it.
 ghost use Rattle.std.specs.Prelude.{◌≡◌, ◌||◌};
 ghost use Rattle.script_tree.specs.Reading.{is_head as is_head_in, is_between as is_between_in, is_over as is_over_in, is_then as is_then_in, is_try as is_try_in, holds_events as holds_events_in, holds_statements as holds_statements_in, is_bundle as is_bundle_in, is_group as is_group_in, breaks_in, bundle_count, fits as fits_in};
 

@@ -1,3 +1,4 @@
+//! Reads the lines of blocks, selects, groups of events and single events.
 ghost use Rattle.std.specs.Prelude.{◌≡◌, Some, Ok, Err, MatchResult};
 ghost use Rattle.script_tree.specs.Parts.{words_read};
 ghost use Rattle.script_tree.specs.Slices.{words_of};

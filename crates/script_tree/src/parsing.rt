@@ -1,3 +1,4 @@
+//! From the bytes of a text to its program, or to its first fault.
 ghost use Rattle.std.specs.Prelude.{◌≡◌, ◌+◌, ◌≤◌, Ok, IfOk, IfErr, length};
 ghost use Rattle.script_text.specs.Spans.{rows_of};
 ghost use Rattle.script_tree.specs.Grammar.{is_header as is_header_in, file_read, rows_read, script_read, grammar, refused as refused_in, fault_refused};

@@ -1,3 +1,4 @@
+//! What can stand at a place of a line form: how it is read, and how it is written.
 ghost use Rattle.std.specs.Prelude.{◌≡◌, ◌==◌, ◌||◌, ◌++◌, OnOk, string_bytes};
 ghost use Rattle.script_tree.specs.Spelling.{part_word};
 ghost use Rattle.script_tree.specs.Names.{sort_number};

@@ -1,3 +1,4 @@
+//! How the lines of statements that hold no others are written.
 ghost use Rattle.std.specs.Prelude.{◌≡◌, ◌++◌, OnOk, string_bytes};
 ghost use Rattle.script_tree.specs.Canon.{form_line};
 ghost use Rattle.script_tree.specs.Lines.{stmt_form, stmt_parts};

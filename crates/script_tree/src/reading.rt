@@ -1,3 +1,4 @@
+//! What was read of a script so far.
 use crate::counts::Counts;
 use crate::level::Level;
 use crate::names::Names;

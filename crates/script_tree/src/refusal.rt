@@ -1,3 +1,4 @@
+//! What is answered for a text that gives no program.
 use pic_base::Memory;
 use std::alloc::AllocError;
 

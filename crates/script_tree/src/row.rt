@@ -1,3 +1,4 @@
+//! The lines of a text that have words, one after the other.
 ghost use Rattle.std.specs.Prelude.{◌≡◌, ◌<◌, ◌≤◌, ◌∷◌, ℕ, length, drop, IfOk};
 ghost use Rattle.script_text.specs.Spans.{bytes_of, rows_of};
 ghost use Rattle.script_tree.specs.Slices.{words_of};

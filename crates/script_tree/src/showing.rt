@@ -1,3 +1,4 @@
+//! How statements and events are written with all that they hold.
 ghost use Rattle.std.specs.Prelude.{◌≡◌, ◌+◌, ◌<◌, ◌≤◌, ◌++◌, ◌∷◌, [], OnOk, string_bytes, flat_map, slice_get};
 ghost use Rattle.script_tree.specs.Canon.{opening, ending, around, part_text, else_text, stmt_text, block_text, events_text, event_text, group_text, levels_of_blocks};
 ghost use Rattle.script_tree.specs.Parts.{number_part};

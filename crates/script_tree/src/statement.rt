@@ -1,3 +1,4 @@
+//! Reads the lines of statements that hold no others.
 ghost use Rattle.std.specs.Prelude.{◌≡◌, Some, Ok, Err, MatchResult};
 ghost use Rattle.script_tree.specs.Parts.{words_read};
 ghost use Rattle.script_tree.specs.Slices.{words_of};

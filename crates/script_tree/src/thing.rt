@@ -1,3 +1,4 @@
+//! What names stand for.
 ghost use Rattle.std.specs.Prelude.{◌≡◌, ◌==◌};
 ghost use Rattle.script_tree.specs.Names.{sort_of as sort_of_in, sort_number};
 

@@ -6,8 +6,9 @@ ghost use Rattle.script_tree.specs.Lines.{tree_form, event_parts};
 
 use crate::form::{BlockForm, EventForm, Form, GroupForm};
 use crate::layout::{line_of_none, line_of_one, line_of_three, line_of_two};
+use crate::named::{Ivar, Latch, Mutex, Stream};
 use crate::opener::Opener;
-use crate::part::{Ivar, Latch, Mutex, Register, Stream};
+use crate::part::Register;
 use crate::program::{EventTree, Program};
 use pic_base::Memory;
 

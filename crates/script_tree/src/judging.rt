@@ -8,11 +8,11 @@ ghost use Rattle.script_tree.specs.Stand.{state_of, IsFree, IsSmall, Refuses};
 use crate::cause::Cause;
 use crate::counts::Counts;
 use crate::fault::Fault;
-use crate::form::form_of;
 use crate::line::{Line, line_of};
 use crate::opener::Opener;
 use crate::program::Kind;
 use crate::reading::Reading;
+use crate::telling::form_of;
 use std::alloc::Global;
 
 /// How many triggers, and how many computations, a script may declare.

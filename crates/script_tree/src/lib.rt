@@ -8,8 +8,8 @@
 //!
 //! A line form has one row in each of these tables: its variant, its word and its parts
 //! (`form.rt`, `specs/Forms.antt`), what is read (`statement.rt`, `opening.rt` or `line.rt`, with
-//! `specs/Lines.antt`), where it may stand (`opener.rt`), what it does (`taking.rt`, both in
-//! `specs/Reading.antt`), and how it is written (`plain.rt` or `bracket.rt`).
+//! `specs/Lines.antt`), where it may stand (`opener.rt`), what it does (`taking.rt` and
+//! `closing.rt`, all in `specs/Reading.antt`), and how it is written (`plain.rt` or `bracket.rt`).
 #![tactic(auto)]
 
 mod behind;
@@ -17,6 +17,7 @@ mod bracket;
 mod canonical;
 mod cause;
 mod class;
+mod closing;
 mod counts;
 mod fault;
 mod form;
@@ -24,6 +25,7 @@ mod judging;
 mod layout;
 mod level;
 mod line;
+mod named;
 mod names;
 mod new_name;
 mod open;
@@ -40,6 +42,7 @@ mod showing;
 mod spelling;
 mod statement;
 mod taking;
+mod telling;
 mod thing;
 
 pub use canonical::show;

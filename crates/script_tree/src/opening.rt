@@ -9,9 +9,10 @@ ghost use Rattle.script_tree.specs.Lines.{opener_form, opener_parts, tree_form, 
 use crate::behind::{none, one, three, two};
 use crate::cause::Cause;
 use crate::form::{BlockForm, EventForm, GroupForm};
+use crate::named::{Ivar, Latch, Mutex, Stream};
 use crate::names::Names;
 use crate::opener::Opener;
-use crate::part::{Ivar, Latch, Mutex, Register, Stream};
+use crate::part::Register;
 use crate::program::{CompRef, EventTree, Operand, Test};
 
 /// Reads the words behind the one that tells a block.

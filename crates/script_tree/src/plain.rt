@@ -5,10 +5,8 @@ ghost use Rattle.script_tree.specs.Lines.{stmt_form, stmt_parts};
 
 use crate::form::{BasicForm, CompForm, FiberForm, Form, ObjectForm};
 use crate::layout::{line_of_none, line_of_one, line_of_three, line_of_two};
-use crate::part::{
-    Cond, FiberText, Fillable, Ivar, Key, Latch, Mutex, PromiseRegister, Register, Sem, Stream,
-    Trigger,
-};
+use crate::named::{Cond, FiberText, Fillable, Ivar, Latch, Mutex, Sem, Stream, Trigger};
+use crate::part::{Key, PromiseRegister, Register};
 use crate::program::{Program, Stmt};
 use pic_base::Memory;
 

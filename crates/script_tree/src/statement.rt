@@ -9,11 +9,9 @@ ghost use Rattle.script_tree.specs.Lines.{stmt_form, stmt_parts};
 use crate::behind::{none, one, three, two};
 use crate::cause::Cause;
 use crate::form::{BasicForm, CompForm, FiberForm, ObjectForm};
+use crate::named::{Cond, FiberText, Fillable, Ivar, Latch, Mutex, Sem, Stream, Trigger};
 use crate::names::Names;
-use crate::part::{
-    Cond, FiberText, Fillable, Ivar, Key, Latch, Mutex, PromiseRegister, Register, Sem, Stream,
-    Trigger,
-};
+use crate::part::{Key, PromiseRegister, Register};
 use crate::program::{CompRef, Operand, Stmt};
 
 /// Reads the words behind the one that tells a basic statement.

@@ -23,7 +23,7 @@ use Rattle.script_tree.specs.Tree.{Tree}
 use Rattle.pic_run.specs.Run.{IsRunOf, origin, start_of}
 use Rattle.pic_run.specs.Report.{declared_names, report, report_lines}
 use Rattle.pic_run.specs.Request.{Command, run, check, show, script_of, request}
-use Rattle.pic_run.specs.Refusal.{Accepts, IsRefused, no_script, not_served, IsServed, refusal_text, unserved}
+use Rattle.pic_run.specs.Refusal.{Accepts, IsRefused, no_script, not_served, IsServed, refusal_text}
 use Rattle.pic_run.specs.Served.{is_served}
 use Rattle.pic_run.specs.Status.{MainReturned}
 use Rattle.pic_run.specs.Output.{AppendsFront, Puts}

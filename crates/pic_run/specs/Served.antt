@@ -1,6 +1,6 @@
 -- Which programs a run serves so far: those that declare computations alone, and have one text, main's,
 -- of the statements below.
-use Rattle.std.specs.Prelude.{ℕ, Bool, true, false, ◌&&◌, ◌==◌, length}
+use Rattle.std.specs.Prelude.{Bool, true, false, ◌&&◌, ◌==◌, length}
 use Rattle.std.specs.List.{list_all}
 use Rattle.script_tree.specs.declared.program.CompRef.{CompRef}
 use Rattle.script_tree.specs.declared.program.CompRef.TheVariants.{Root, Named, Promise as PromiseIn}

@@ -86,11 +86,7 @@ fn answer_of_text(alloc: Global, request: &Request, bytes: &[u8]) -> Result<Answ
 }
 
 /// What a call has to write that asks so of a script.
-fn answer_of_program(
-    alloc: Global,
-    request: &Request,
-    program: &Program,
-) -> Result<Answer, Memory>
+fn answer_of_program(alloc: Global, request: &Request, program: &Program) -> Result<Answer, Memory>
     requires { IsWellFormed program.now }
     ensures { IfOk result (λ answer. (bytes : List ℕ) → grammar bytes ≡ Ok program.now
         → Answers bytes (command_of request.now) (answer_text answer) (answer_status answer)) }

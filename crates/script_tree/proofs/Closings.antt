@@ -7,13 +7,11 @@ use Rattle.script_tree.specs.declared.opener.Opener.TheVariants as opener
 use Rattle.script_tree.specs.declared.program.EventTree.{EventTree}
 use Rattle.script_tree.specs.declared.program.Stmt.{Stmt}
 use Rattle.script_tree.specs.declared.program.Stmt.TheVariants as stmt
-use Rattle.script_tree.specs.declared.program.Text.{Text}
 use Rattle.script_tree.specs.Canon.{opening, ending, event_text, events_text, stmts_text, stmt_text, block_text}
 use Rattle.script_tree.specs.Parts.{Part, name_part}
 use Rattle.script_tree.specs.Reading.{State, Frame, closed, part_begun, left, with_stmt, with_event, is_group, holds_statements}
 use Rattle.script_tree.specs.Spelling.{line_text}
 use Rattle.script_tree.specs.Tree.{Tree}
-use Rattle.script_tree.proofs.Allowed.{events}
 use Rattle.script_tree.proofs.OpenGroups.{open_groups}
 use Rattle.script_tree.proofs.Paths.{open_blocks, Descends}
 use Rattle.script_tree.proofs.Settled.{Settles}

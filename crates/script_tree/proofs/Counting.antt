@@ -1,16 +1,15 @@
 -- A script has no more declarations and texts than it may have.
-use Rattle.std.proofs.Common.{◌≡◌, ℕ, ◌+◌, ◌<◌, ◌≤◌, ◌==◌, ◌∙◌, Bool, true, false, cond, nat_le, List, [], ◌∷◌, ◌++◌, length, codes, filter, arith, length-append, le_refl, refl, sym, ap, subst, not-suc-le-zero}
-use Rattle.std.proofs.lemmas.Bool.{false≢true, leb-false}
+use Rattle.std.proofs.Common.{◌≡◌, ℕ, ◌+◌, ◌≤◌, ◌==◌, ◌∙◌, Bool, false, nat_le, List, [], ◌∷◌, ◌++◌, length, codes, filter, arith, length-append, refl, ap, not-suc-le-zero}
+use Rattle.std.proofs.lemmas.Bool.{leb-false}
 use Rattle.std.proofs.lemmas.List.Elements.{filter-append}
 use Rattle.script_tree.specs.declared.counts.Counts.{Counts}
 use Rattle.script_tree.specs.declared.program.Decl.{Decl}
 use Rattle.script_tree.specs.declared.program.Kind.{Kind}
 use Rattle.script_tree.specs.declared.program.Kind.TheVariants as kind
-use Rattle.script_tree.specs.declared.program.Stmt.{Stmt}
 use Rattle.script_tree.specs.declared.program.Text.{Text}
 use Rattle.script_tree.specs.Lines.{kind_made, name_in, part_at}
 use Rattle.script_tree.specs.Names.{sort_of, sort_number}
-use Rattle.script_tree.specs.Reading.{State, Frame, counted, is_kind_full}
+use Rattle.script_tree.specs.Reading.{State, counted, is_kind_full}
 use Rattle.script_tree.specs.WellFormed.{how_many}
 use Rattle.script_tree.proofs.Mains.{main_count, TextsMove, same_texts, a_fiber, main_begun, file_mains}
 use Rattle.script_tree.proofs.Nesting.{IsNested}

@@ -1,11 +1,9 @@
 -- The names of declarations are names, texts have their blocks, and the last text is main's.
-use Rattle.std.proofs.Common.{◌≡◌, ℕ, ◌+◌, ◌<◌, ◌≤◌, ◌∙◌, Bool, true, false, IsTrue, List, [], ◌∷◌, ◌++◌, length, codes, arith, length-append, refl, sym, ap, subst, not-suc-le-zero}
+use Rattle.std.proofs.Common.{◌≡◌, ◌<◌, ◌≤◌, ◌∙◌, IsTrue, List, [], ◌∷◌, ◌++◌, length, codes, arith, length-append, refl, sym, not-suc-le-zero}
 use Rattle.std.specs.List.{AllByRecursion}
 use Rattle.script_tree.specs.declared.form.DeclForm.{DeclForm}
 use Rattle.script_tree.specs.declared.form.DeclForm.TheVariants as decl_form
 use Rattle.script_tree.specs.declared.form.Form.TheVariants as form
-use Rattle.script_tree.specs.declared.program.Decl.{Decl}
-use Rattle.script_tree.specs.declared.program.Stmt.{Stmt}
 use Rattle.script_tree.specs.declared.program.Text.{Text}
 use Rattle.script_tree.specs.Grammar.{tree_of}
 use Rattle.script_tree.specs.Lines.{kind_made, name_in, part_at}

@@ -1,5 +1,5 @@
 -- The names of a script are apart.
-use Rattle.std.proofs.Common.{◌≡◌, ◌≢◌, ℕ, ◌+◌, ◌<◌, ◌≤◌, ◌∙◌, Bool, true, false, cond, Option, Some, None, Result, Ok, Err, List, [], ◌∷◌, ◌++◌, length, map, codes, arith, append_assoc, append-nil, length-append, refl, sym, ap, subst, not-suc-le-zero}
+use Rattle.std.proofs.Common.{◌≡◌, ◌≢◌, ℕ, ◌∙◌, Bool, true, false, cond, Option, Some, None, Result, Ok, Err, List, [], ◌∷◌, ◌++◌, map, refl, sym, subst}
 use Rattle.std.specs.List.{AllByRecursion}
 use Rattle.std.specs.Str.{bytes_eq}
 use Rattle.std.proofs.lemmas.Bool.{false≢true}
@@ -10,25 +10,16 @@ use Rattle.script_tree.specs.declared.class.Class.{Class}
 use Rattle.script_tree.specs.declared.class.Class.TheVariants as class_is
 use Rattle.script_tree.specs.declared.form.DeclForm.{DeclForm}
 use Rattle.script_tree.specs.declared.form.DeclForm.TheVariants as decl_form
-use Rattle.script_tree.specs.declared.form.Form.TheVariants as form
-use Rattle.script_tree.specs.declared.form.GroupForm.TheVariants as group_form
-use Rattle.script_tree.specs.declared.opener.Opener.{Opener}
-use Rattle.script_tree.specs.declared.opener.Opener.TheVariants as opener
-use Rattle.script_tree.specs.declared.program.Decl.{Decl}
-use Rattle.script_tree.specs.declared.program.Text.{Text}
 use Rattle.script_tree.specs.declared.thing.Thing.{Thing}
 use Rattle.script_tree.specs.Forms.{decl_form_shapes}
-use Rattle.script_tree.specs.Lines.{kind_made, name_in, part_at}
+use Rattle.script_tree.specs.Lines.{name_in, part_at}
 use Rattle.script_tree.specs.Names.{Named, thing_of}
 use Rattle.script_tree.specs.Parts.{Part, name_part, Shape, a_new_name, a_number, new_name, class_read, word_read, words_read, then_read}
-use Rattle.script_tree.specs.Reading.{State, is_head, holds_statements, holds_events}
+use Rattle.script_tree.specs.Reading.{State}
 use Rattle.script_tree.specs.Words.{class}
 use Rattle.script_tree.specs.WellFormed.{AreDistinct}
 use Rattle.script_tree.proofs.Lasting.{all_push}
-use Rattle.script_tree.proofs.Mains.{main_count, TextsMove, same_texts, a_fiber, main_begun, file_mains}
-use Rattle.script_tree.proofs.Moves.{Moves, declares, begins_fiber, begins_main, states, adds_leaf, opens, opens_select, opens_group, begins_else, begins_catch, ends_text, ends_block, ends_select, ends_group, opens_block, IsBlock, a_block, IsSelect, a_select, IsGroup, a_group, Ends, a_text, the_main}
-use Rattle.script_tree.proofs.Nesting.{IsNested, takes_texts}
-use Rattle.script_tree.proofs.Readings.{ArePartsOf}
+use Rattle.script_tree.proofs.Moves.{Moves, declares, begins_fiber, begins_main, states, adds_leaf, opens, opens_select, opens_group, begins_else, begins_catch, ends_text, ends_block, ends_select, ends_group}
 
 -- ---- new names
 

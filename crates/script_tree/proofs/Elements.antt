@@ -1,5 +1,5 @@
 -- Elements of a list by their places, where one is set or added.
-use Rattle.std.proofs.Common.{◌≡◌, ℕ, zero, suc, ◌+◌, Some, None, List, [], ◌∷◌, ◌++◌, length, set, slice_get, refl, sym, ap, subst}
+use Rattle.std.proofs.Common.{◌≡◌, ℕ, zero, suc, Some, List, [], ◌∷◌, ◌++◌, length, set, slice_get, subst}
 
 -- what holds of each element at its place, and of x at the one that is set
 pub set_keeps : {A : Type 0} (P : ℕ → A → Type 0) (xs : List A) (at : ℕ) (x : A) → ((place : ℕ) (y : A) → slice_get xs place ≡ Some y → P place y)

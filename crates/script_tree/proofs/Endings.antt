@@ -9,13 +9,12 @@ use Rattle.script_tree.specs.declared.program.Operand.{Operand}
 use Rattle.script_tree.specs.declared.program.Stmt.{Stmt}
 use Rattle.script_tree.specs.declared.program.Stmt.TheVariants as stmt
 use Rattle.script_tree.specs.declared.program.Test.{Test}
-use Rattle.script_tree.specs.declared.program.Text.{Text}
 use Rattle.script_tree.specs.Canon.{opening, ending, block_text}
 use Rattle.script_tree.specs.Parts.{number_part}
 use Rattle.script_tree.specs.Reading.{State, closed, else_closed, part_begun, else_begun, is_group, is_then, is_try, holds_statements, holds_events}
 use Rattle.script_tree.specs.Spelling.{line_text}
 use Rattle.script_tree.specs.Tree.{Tree}
-use Rattle.script_tree.proofs.Allowed.{May, events, role_events, role_then, role_try, nothing_ends}
+use Rattle.script_tree.proofs.Allowed.{May, role_events, role_then, role_try, nothing_ends}
 use Rattle.script_tree.proofs.Closings.{two_parts, block_closes, fiber_closes, main_closes, select_closes, group_closes, part_goes}
 use Rattle.script_tree.proofs.OpenGroups.{GroupsDescend}
 use Rattle.script_tree.proofs.Paths.{is_bare_else, BlocksDescend}

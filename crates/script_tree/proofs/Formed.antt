@@ -1,14 +1,10 @@
 -- Each program that is read is well-formed.
-use Rattle.std.proofs.Common.{◌≡◌, ◌≢◌, ℕ, ◌+◌, ◌≤◌, ◌∙◌, Bool, true, false, cond, Option, Some, None, List, [], ◌∷◌, ◌++◌, length, slice_get, codes, arith, le_trans, not-suc-le-zero, refl, sym, ap, subst}
-use Rattle.std.specs.List.{AllByRecursion}
+use Rattle.std.proofs.Common.{◌≡◌, ◌≢◌, ℕ, ◌≤◌, true, List, [], ◌∷◌, codes, arith, le_trans, not-suc-le-zero, refl, subst}
 use Rattle.std.proofs.lemmas.Bool.{false≢true}
 use Rattle.std.proofs.lemmas.Option.{none-some}
 use Rattle.std.proofs.lemmas.Slice.Eq.{bytes_eq-Decides}
 use Rattle.script_tree.specs.declared.opener.Opener.{Opener}
 use Rattle.script_tree.specs.declared.opener.Opener.TheVariants as opener
-use Rattle.script_tree.specs.declared.program.EventTree.{EventTree}
-use Rattle.script_tree.specs.declared.program.Stmt.{Stmt}
-use Rattle.script_tree.specs.declared.program.Text.{Text}
 use Rattle.script_tree.specs.Grammar.{IsScript, tree_of}
 use Rattle.script_tree.specs.Reading.{State, Frame, start, is_over}
 use Rattle.script_tree.specs.Tree.{Tree}
@@ -25,10 +21,10 @@ use Rattle.script_tree.proofs.KnownNames.{HeadIsFirst, Knows, before_main, moves
 use Rattle.script_tree.proofs.Lasting.{LastsIn, lasts_in, lasts_itself, moves_names}
 use Rattle.script_tree.proofs.Mains.{main_count, mains, texts_move}
 use Rattle.script_tree.proofs.Moves.{Moves}
-use Rattle.script_tree.proofs.Moving.{moves, alone}
-use Rattle.script_tree.proofs.Nesting.{IsNested, Nested, is_file}
+use Rattle.script_tree.proofs.Moving.{moves}
+use Rattle.script_tree.proofs.Nesting.{IsNested, Nested}
 use Rattle.script_tree.proofs.Paths.{Path, begin, more, BlocksDescend}
-use Rattle.script_tree.proofs.Pathways.{Way, path_of}
+use Rattle.script_tree.proofs.Pathways.{path_of}
 use Rattle.script_tree.proofs.Stating.{FewStatements, moves_state}
 
 -- what holds of each state on a path

@@ -1,5 +1,5 @@
 -- All that was read of a script fits: blocks, events, and what is open.
-use Rattle.std.proofs.Common.{◌≡◌, ℕ, ◌+◌, ◌<◌, ◌≤◌, ◌∙◌, Bool, true, false, Option, Some, None, List, [], ◌∷◌, ◌++◌, length, set, slice_get, arith, length-append, lt_of_lt_of_le, refl, sym, ap, subst}
+use Rattle.std.proofs.Common.{◌≡◌, ℕ, ◌+◌, ◌<◌, ◌≤◌, ◌∙◌, true, false, Some, List, [], ◌∷◌, ◌++◌, length, set, slice_get, arith, length-append, lt_of_lt_of_le, refl, sym, ap, subst}
 use Rattle.std.specs.List.{AllByRecursion}
 use Rattle.std.proofs.lemmas.Bool.{false≢true}
 use Rattle.script_tree.specs.declared.opener.Opener.{Opener}
@@ -10,23 +10,21 @@ use Rattle.script_tree.specs.declared.program.Operand.{Operand}
 use Rattle.script_tree.specs.declared.program.Stmt.{Stmt}
 use Rattle.script_tree.specs.declared.program.Stmt.TheVariants as stmt
 use Rattle.script_tree.specs.declared.program.Test.{Test}
-use Rattle.script_tree.specs.declared.form.EventForm.{EventForm}
 use Rattle.script_tree.specs.declared.form.Form.TheVariants as form
 use Rattle.script_tree.specs.Lines.{number_in, part_at, event_form_made}
-use Rattle.script_tree.specs.Reading.{State, Frame, is_group, holds_statements, holds_events, frame, outermost, inside, with_stmt, with_event}
+use Rattle.script_tree.specs.Reading.{State, Frame, is_group, holds_statements, frame, outermost, inside, with_stmt, with_event}
 use Rattle.script_tree.specs.Tree.{Tree}
-use Rattle.script_tree.specs.WellFormed.{IsInner, IsEvent, StmtFits, EventFits, OpenerFits, MembersFit}
+use Rattle.script_tree.specs.WellFormed.{IsInner, IsEvent, StmtFits, EventFits}
 use Rattle.script_tree.proofs.Descending.{inner_descend}
 use Rattle.script_tree.proofs.Fitting.{NamesFit}
-use Rattle.script_tree.proofs.Frames.{OpenFits, FrameFits, FramesFit, place_around, block_opens_fit, select_opens_fit, group_opens_fit, empty_fits, becomes_fits, groups_fit, behind_text_fits}
+use Rattle.script_tree.proofs.Frames.{OpenFits, FramesFit, place_around, block_opens_fit, select_opens_fit, group_opens_fit, empty_fits, becomes_fits, groups_fit, behind_text_fits}
 use Rattle.script_tree.proofs.Groups.{GroupsDescend, open_groups, inner_group, behind_no_group}
 use Rattle.script_tree.proofs.Lasting.{LastsIn, all_push}
-use Rattle.script_tree.proofs.Moves.{Moves, declares, begins_fiber, begins_main, states, adds_leaf, opens, opens_select, opens_group, begins_else, begins_catch, ends_text, ends_block, ends_select, ends_group, IsBlock, IsSelect, IsGroup, Becomes, Groups, a_choose, a_wrap, a_guard, Ends}
+use Rattle.script_tree.proofs.Moves.{Moves, declares, begins_fiber, begins_main, states, adds_leaf, opens, opens_select, opens_group, begins_else, begins_catch, ends_text, ends_block, ends_select, ends_group, Becomes, Groups, a_choose, a_wrap, a_guard, Ends}
 use Rattle.script_tree.proofs.Moving.{becomes_in, becomes_no_file, becomes_holds}
 use Rattle.script_tree.proofs.Nesting.{is_file, stands_in, Nested, IsNested}
 use Rattle.script_tree.proofs.Paths.{open_blocks, Descends, BlocksDescend}
 use Rattle.script_tree.proofs.Elements.{set_keeps, push_keeps}
-use Rattle.script_tree.proofs.Readings.{ArePartsOf}
 use Rattle.script_tree.proofs.StatementsFit.{stated_fits, opened_fits, select_fits, group_fits, leaf_fits, are_for}
 
 pub record Holds (s : State) (tree : Tree) : Type 0 where

@@ -1,12 +1,12 @@
 -- Moves keep what stands in what.
-use Rattle.std.proofs.Common.{◌≡◌, ℕ, ◌∙◌, Bool, true, false, List, [], ◌∷◌, refl, sym, ap, subst}
+use Rattle.std.proofs.Common.{◌≡◌, ◌∙◌, true, false, List, [], ◌∷◌, refl, sym, subst}
 use Rattle.std.proofs.lemmas.Bool.{false≢true}
 use Rattle.script_tree.specs.declared.form.GroupForm.TheVariants as group_form
 use Rattle.script_tree.specs.declared.opener.Opener.{Opener}
 use Rattle.script_tree.specs.declared.opener.Opener.TheVariants as opener
-use Rattle.script_tree.specs.Reading.{State, Frame, is_head, holds_statements, holds_events}
+use Rattle.script_tree.specs.Reading.{State, Frame, holds_statements, holds_events}
 use Rattle.script_tree.proofs.Moves.{Moves, declares, begins_fiber, begins_main, states, adds_leaf, opens, opens_select, opens_group, begins_else, begins_catch, ends_text, ends_block, ends_select, ends_group, opens_block, IsBlock, a_block, IsSelect, a_select, IsGroup, a_group, Ends, a_text, the_main}
-use Rattle.script_tree.proofs.Nesting.{is_file, takes_texts, stands_in, Nested, IsNested}
+use Rattle.script_tree.proofs.Nesting.{is_file, stands_in, Nested, IsNested}
 
 opens_in : (o around : Opener) → opens_block o ≡ true → stands_in o around ≡ holds_statements around
 opens_in (opener.Then l t r) around h = refl

@@ -1,5 +1,5 @@
 -- The names that are known are the root's, main's, those of declarations and those of fibers' texts, in this order.
-use Rattle.std.proofs.Common.{◌≡◌, ◌≢◌, ℕ, ◌+◌, ◌≤◌, ◌∙◌, Bool, true, false, cond, List, [], ◌∷◌, ◌++◌, length, map, codes, arith, append_assoc, append-nil, length-append, refl, sym, ap, subst, not-suc-le-zero}
+use Rattle.std.proofs.Common.{◌≡◌, ℕ, ◌≤◌, ◌∙◌, true, List, [], ◌∷◌, ◌++◌, length, map, codes, arith, append_assoc, append-nil, length-append, refl, sym, ap, subst, not-suc-le-zero}
 use Rattle.std.proofs.lemmas.Bool.{false≢true}
 use Rattle.std.proofs.lemmas.List.{map-append}
 use Rattle.script_tree.specs.declared.form.GroupForm.TheVariants as group_form

@@ -1,32 +1,22 @@
 -- What was read lasts: a tree that has what a state has, has what the states before it had, and the names of
 -- a state stand for things that are in the tree.
-use Rattle.std.proofs.Common.{◌≡◌, ℕ, ◌+◌, ◌<◌, ◌≤◌, ◌==◌, ◌∙◌, Bool, true, false, IsTrue, Option, Some, None, List, [], ◌∷◌, ◌++◌, length, take, set, slice_get, codes, arith, append_assoc, append-nil, length-append, length-set, le_refl, le_trans, eqb-true, refl, sym, ap, subst}
+use Rattle.std.proofs.Common.{◌≡◌, ℕ, ◌+◌, ◌≤◌, ◌==◌, ◌∙◌, Some, List, [], ◌∷◌, ◌++◌, length, set, slice_get, arith, append_assoc, append-nil, length-append, length-set, le_refl, le_trans, refl, sym, ap, subst}
 use Rattle.std.specs.List.{AllByRecursion}
-use Rattle.std.proofs.lemmas.Bool.{false≢true, eq-eqb}
-use Rattle.script_tree.specs.declared.opener.Opener.{Opener}
+use Rattle.std.proofs.lemmas.Bool.{eq-eqb}
 use Rattle.script_tree.specs.declared.program.Decl.{Decl}
-use Rattle.script_tree.specs.declared.program.EventTree.{EventTree}
 use Rattle.script_tree.specs.declared.program.Kind.{Kind}
 use Rattle.script_tree.specs.declared.program.Kind.TheVariants as kind
-use Rattle.script_tree.specs.declared.program.Stmt.{Stmt}
 use Rattle.script_tree.specs.declared.program.Text.{Text}
-use Rattle.script_tree.specs.declared.thing.Sort.{Sort}
-use Rattle.script_tree.specs.declared.thing.Sort.TheVariants as sort
-use Rattle.script_tree.specs.declared.thing.Thing.TheVariants as thing
 use Rattle.script_tree.specs.Grammar.{tree_of}
 use Rattle.script_tree.specs.Lines.{kind_made, name_in, part_at}
-use Rattle.script_tree.specs.Names.{Named, first_names, sort_of, sort_number}
-use Rattle.script_tree.specs.Reading.{State, Frame, is_over}
+use Rattle.script_tree.specs.Names.{Named, sort_of, sort_number}
+use Rattle.script_tree.specs.Reading.{State}
 use Rattle.script_tree.specs.Tree.{Tree}
 use Rattle.script_tree.specs.WellFormed.{IsOfSort}
 use Rattle.script_tree.proofs.Fitting.{PlaceFits, ThingFits, NamesFit}
-use Rattle.script_tree.proofs.Keeping.{moves_nested}
 use Rattle.script_tree.proofs.Mains.{main_count, TextsMove, same_texts, a_fiber, main_begun, texts_move, file_mains}
 use Rattle.script_tree.proofs.Moves.{Moves, declares, begins_fiber, begins_main, states, adds_leaf, opens, opens_select, opens_group, begins_else, begins_catch, ends_text, ends_block, ends_select, ends_group}
-use Rattle.script_tree.proofs.Moving.{moves}
 use Rattle.script_tree.proofs.Nesting.{IsNested}
-use Rattle.script_tree.proofs.Paths.{Path}
-use Rattle.script_tree.proofs.Pathways.{path_nested}
 
 -- the tree has the declarations of a state, and as many texts, blocks and events; it has one text more than
 -- the state where the main text hasn't begun

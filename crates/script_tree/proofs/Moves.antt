@@ -1,5 +1,5 @@
 -- What the lines of a script do, one by one: each move leads from a state to the one behind a line.
-use Rattle.std.proofs.Common.{◌≡◌, ℕ, ◌+◌, Bool, true, false, List, [], ◌∷◌, ◌++◌, length, codes, slice_set, nat_le, Some, None}
+use Rattle.std.proofs.Common.{◌≡◌, ℕ, Bool, true, false, List, [], ◌∷◌, length, codes, slice_set, nat_le, Some, None}
 use Rattle.script_tree.specs.declared.form.DeclForm.{DeclForm}
 use Rattle.script_tree.specs.declared.form.BasicForm.{BasicForm}
 use Rattle.script_tree.specs.declared.form.CompForm.{CompForm}
@@ -20,7 +20,7 @@ use Rattle.script_tree.specs.declared.program.Stmt.TheVariants as stmt
 use Rattle.script_tree.specs.declared.program.Test.{Test}
 use Rattle.script_tree.specs.Lines.{number_in, name_in, part_at, kind_made, basic_form_made, comp_form_made, object_form_made, fiber_form_made, block_form_made, event_form_made, group_form_made}
 use Rattle.script_tree.specs.Parts.{Part}
-use Rattle.script_tree.specs.Reading.{State, Frame, is_head, is_between, holds_statements, holds_events, is_kind_full, is_deep, declared, fiber_begun, text_begun, stated, leaf_added, block_opened, select_opened, group_opened, part_begun, with_stmt, with_event}
+use Rattle.script_tree.specs.Reading.{State, Frame, is_head, holds_statements, holds_events, is_kind_full, declared, fiber_begun, text_begun, stated, leaf_added, block_opened, select_opened, group_opened, part_begun, with_stmt, with_event}
 use Rattle.script_tree.proofs.Nesting.{takes_texts}
 use Rattle.script_tree.proofs.Readings.{ArePartsOf}
 

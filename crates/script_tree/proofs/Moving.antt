@@ -1,7 +1,6 @@
 -- Each line that doesn't end an empty `else` part is a move.
-use Rattle.std.proofs.Common.{◌≡◌, ℕ, ◌+◌, ◌∙◌, Bool, true, false, ◌&&◌, ◌||◌, cond, not, Option, Some, None, List, [], ◌∷◌, ◌++◌, length, codes, slice_set, nat_le, refl, sym, ap, subst}
-use Rattle.std.proofs.lemmas.Bool.{cases_Bool, false≢true, or_parts, and_parts}
-use Rattle.script_tree.specs.declared.cause.Cause.{Cause}
+use Rattle.std.proofs.Common.{◌≡◌, ℕ, ◌∙◌, Bool, true, false, ◌||◌, cond, Some, None, List, [], ◌∷◌, slice_set, refl, sym, ap, subst}
+use Rattle.std.proofs.lemmas.Bool.{false≢true, and_parts}
 use Rattle.script_tree.specs.declared.cause.Cause.TheVariants as cause
 use Rattle.script_tree.specs.declared.form.BasicForm.{BasicForm}
 use Rattle.script_tree.specs.declared.form.BasicForm.TheVariants as basic_form
@@ -16,18 +15,17 @@ use Rattle.script_tree.specs.declared.line.Line.TheVariants as line
 use Rattle.script_tree.specs.declared.opener.Opener.{Opener}
 use Rattle.script_tree.specs.declared.opener.Opener.TheVariants as opener
 use Rattle.script_tree.specs.declared.program.EventTree.{EventTree}
-use Rattle.script_tree.specs.declared.program.EventTree.TheVariants as event
 use Rattle.script_tree.specs.declared.program.Operand.{Operand}
 use Rattle.script_tree.specs.declared.program.Stmt.{Stmt}
 use Rattle.script_tree.specs.declared.program.Stmt.TheVariants as stmt
 use Rattle.script_tree.specs.declared.program.Test.{Test}
-use Rattle.script_tree.specs.Lines.{line_made, name_in, number_in, part_at, kind_made, block_form_made, group_form_made, event_form_made}
+use Rattle.script_tree.specs.Lines.{line_made, block_form_made, group_form_made}
 use Rattle.script_tree.specs.Parts.{Part}
-use Rattle.script_tree.specs.Reading.{State, Frame, after, closed, else_closed, opened, left, part_begun, else_begun, is_head, is_between, is_then, is_try, is_over, holds_statements, holds_events, fits, is_kind_full, is_full, is_line_deep, limit_broken, with_stmt, with_event}
-use Rattle.script_tree.proofs.Moves.{Moves, declares, begins_fiber, begins_main, states, adds_leaf, opens, opens_select, opens_group, begins_else, begins_catch, ends_text, ends_block, ends_select, ends_group, IsStated, basic, on_comps, on_objects, on_fibers, IsBlock, a_block, IsSelect, a_select, IsGroup, a_group, Becomes, a_then, an_else, a_loop, a_handler, a_forbid, a_permit, an_under, a_link, a_protect, a_bundle, a_flock, Groups, a_choose, a_wrap, a_guard, Ends, a_text, the_main}
+use Rattle.script_tree.specs.Reading.{State, Frame, after, closed, else_closed, opened, left, else_begun, is_head, is_between, is_then, is_try, holds_statements, holds_events, fits, is_full, is_line_deep, limit_broken, with_stmt, with_event}
+use Rattle.script_tree.proofs.Moves.{Moves, declares, begins_fiber, begins_main, states, adds_leaf, opens, opens_select, opens_group, begins_else, begins_catch, ends_text, ends_block, ends_select, ends_group, basic, on_comps, on_objects, on_fibers, a_block, a_select, a_group, Becomes, a_then, an_else, a_loop, a_handler, a_forbid, a_permit, an_under, a_link, a_protect, a_bundle, a_flock, Groups, a_choose, a_wrap, a_guard, Ends, a_text, the_main}
 use Rattle.script_tree.proofs.Nesting.{is_file, takes_texts, stands_in, Nested, IsNested}
 use Rattle.script_tree.proofs.Paths.{is_bare_else, ends_bare_else, Takes}
-use Rattle.script_tree.proofs.Readings.{ArePartsOf, IsRead, is_read}
+use Rattle.script_tree.proofs.Readings.{ArePartsOf, is_read}
 
 -- ---- limits
 

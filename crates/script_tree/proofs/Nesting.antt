@@ -1,5 +1,5 @@
 -- What stands in what: texts in the file, blocks in texts and blocks, groups of events in selects and groups.
-use Rattle.std.proofs.Common.{◌≡◌, Bool, true, false, List, [], ◌∷◌, refl}
+use Rattle.std.proofs.Common.{◌≡◌, Bool, true, false, List, [], ◌∷◌}
 use Rattle.script_tree.specs.declared.opener.Opener.{Opener}
 use Rattle.script_tree.specs.declared.opener.Opener.TheVariants as opener
 use Rattle.script_tree.specs.Reading.{State, Frame, holds_statements, holds_events}

@@ -9,14 +9,13 @@ use Rattle.script_tree.specs.declared.program.EventTree.TheVariants as event
 use Rattle.script_tree.specs.declared.program.Kind.{Kind}
 use Rattle.script_tree.specs.declared.program.Stmt.{Stmt}
 use Rattle.script_tree.specs.declared.program.Stmt.TheVariants as stmt
-use Rattle.script_tree.specs.declared.program.Text.{Text}
 use Rattle.script_tree.specs.Canon.{form_line, opening, event_text, events_text, stmt_text, block_text}
 use Rattle.script_tree.specs.Lines.{stmt_form, stmt_parts, opener_form, opener_parts, tree_form, event_parts, kind_form, kind_parts}
 use Rattle.script_tree.specs.Parts.{name_part}
 use Rattle.script_tree.specs.Reading.{State, declared, fiber_begun, text_begun, stated, opened, block_opened, select_opened, group_opened, leaf_added, is_head, is_between, is_group, holds_statements, holds_events}
 use Rattle.script_tree.specs.Tree.{Tree}
 use Rattle.script_tree.specs.declared.line.Line.TheVariants as line
-use Rattle.script_tree.proofs.Allowed.{May, events, statements, role_file, role_head, role_statements, role_events}
+use Rattle.script_tree.proofs.Allowed.{May, role_file, role_head, role_statements, role_events}
 use Rattle.script_tree.proofs.OpenGroups.{open_groups, GroupsDescend}
 use Rattle.script_tree.proofs.Settled.{Settles}
 use Rattle.script_tree.proofs.Standing.{Around, fiber, main, block, select, group, Stands, in_file, behind, in_block, in_events, Goes, is_block, begun, stmts_shown, events_shown, enough, stmts_push, events_push, decl_more}

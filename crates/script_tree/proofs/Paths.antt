@@ -15,7 +15,7 @@ use Rattle.script_tree.specs.declared.thing.Sort.TheVariants as sort
 use Rattle.script_tree.specs.declared.thing.Thing.{Thing}
 use Rattle.script_tree.specs.declared.thing.Thing.TheVariants as thing
 use Rattle.script_tree.specs.Forms.{shapes}
-use Rattle.script_tree.specs.Grammar.{line_read, tree_of}
+use Rattle.script_tree.specs.Grammar.{line_read}
 use Rattle.script_tree.specs.Lines.{line_form, line_parts}
 use Rattle.script_tree.specs.Names.{Named, sort_of}
 use Rattle.script_tree.specs.Parts.{Part}

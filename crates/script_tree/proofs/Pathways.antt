@@ -1,5 +1,5 @@
 -- Each script has a path: where an empty `else` part ends, the state is the same as without the line `else`.
-use Rattle.std.proofs.Common.{◌≡◌, ℕ, ◌+◌, ◌-◌, ◌∙◌, Bool, true, false, ◌||◌, cond, Option, Some, None, Result, Ok, Err, List, [], ◌∷◌, ◌++◌, length, take, set, codes, arith, length-append, take_at, refl, sym, ap, subst, inl, inr, add-sub_cancel}
+use Rattle.std.proofs.Common.{◌≡◌, ℕ, ◌+◌, ◌-◌, ◌∙◌, Bool, true, false, ◌||◌, cond, Option, Some, None, Result, Ok, Err, List, [], ◌∷◌, ◌++◌, length, take, set, arith, length-append, take_at, refl, sym, ap, subst, inl, inr}
 use Rattle.std.proofs.lemmas.Bool.{cases_Bool, false≢true}
 use Rattle.script_text.specs.Faults.{first_fault}
 use Rattle.script_text.specs.Lines.{Row, lines, rows}
@@ -18,18 +18,18 @@ use Rattle.script_tree.specs.declared.program.Stmt.{Stmt}
 use Rattle.script_tree.specs.declared.program.Stmt.TheVariants as stmt
 use Rattle.script_tree.specs.declared.program.Test.{Test}
 use Rattle.script_tree.specs.declared.refusal.Refused.{Refused}
-use Rattle.script_tree.specs.Forms.{Seen, form_of, shapes}
-use Rattle.script_tree.specs.Grammar.{IsScript, grammar, text_read, script_read, rows_read, then_read, file_read, step, stepped, admitted, line_read, line_seen, line_of_parts, tree_of, is_header, refused}
+use Rattle.script_tree.specs.Forms.{form_of, shapes}
+use Rattle.script_tree.specs.Grammar.{IsScript, text_read, script_read, rows_read, then_read, step, stepped, admitted, line_read, line_seen, line_of_parts, tree_of, is_header, refused}
 use Rattle.script_tree.specs.Lines.{line_made}
 use Rattle.script_tree.specs.Parts.{Part, words_read}
-use Rattle.script_tree.specs.Reading.{State, Frame, start, after, left, closed, fits, with_stmt, limit_broken, is_over, is_head, is_between, holds_statements, holds_events, part_begun}
+use Rattle.script_tree.specs.Reading.{State, Frame, start, after, left, closed, fits, with_stmt, limit_broken, is_over, is_head, is_between, holds_events, part_begun}
 use Rattle.script_tree.specs.Tree.{Tree}
 use Rattle.script_tree.proofs.Moves.{Moves, declares, begins_fiber, begins_main, states, adds_leaf, opens, opens_select, opens_group, begins_else, begins_catch, ends_text, ends_block, ends_select, ends_group, IsBlock, a_block, IsSelect, a_select, IsGroup, a_group, opens_block, Ends, a_text, the_main}
 use Rattle.script_tree.proofs.Moving.{moves}
 use Rattle.script_tree.proofs.Keeping.{moves_nested}
 use Rattle.script_tree.proofs.Nesting.{Nested, IsNested, is_file}
 use Rattle.script_tree.proofs.Paths.{is_bare_else, ends_bare_else, Takes, Path, begin, more}
-use Rattle.script_tree.proofs.Readings.{IsRead, is_read}
+use Rattle.script_tree.proofs.Readings.{is_read}
 
 -- what was read of a script, and the path to it
 pub record Way (tree : Tree) : Type 0 where

@@ -1,11 +1,9 @@
 -- The line that words are read as is made by a form that may stand there, of the parts that its words are read as.
-use Rattle.std.proofs.Common.{◌≡◌, ℕ, Bool, true, false, cond, Option, Some, None, Result, Ok, Err, List, refl, sym, ap, ◌∙◌}
-use Rattle.std.proofs.lemmas.Bool.{cases_Bool}
+use Rattle.std.proofs.Common.{◌≡◌, ℕ, Bool, true, false, cond, Option, Some, None, Result, Ok, Err, List, refl}
 use Rattle.script_tree.specs.declared.cause.Cause.{Cause}
 use Rattle.script_tree.specs.declared.cause.Cause.TheVariants as cause
 use Rattle.script_tree.specs.declared.form.Form.{Form}
 use Rattle.script_tree.specs.declared.line.Line.{Line}
-use Rattle.script_tree.specs.declared.opener.Opener.{Opener}
 use Rattle.script_tree.specs.Forms.{Seen, form_of, shapes}
 use Rattle.script_tree.specs.Grammar.{line_read, line_seen, line_of_parts}
 use Rattle.script_tree.specs.Lines.{line_made}

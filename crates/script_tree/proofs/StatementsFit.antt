@@ -1,5 +1,5 @@
 -- The statements, openers and events that lines are made into have the parts that their forms want.
-use Rattle.std.proofs.Common.{◌≡◌, ℕ, ◌<◌, Ok, List, ◌∷◌, [], refl, sym, ap, subst}
+use Rattle.std.proofs.Common.{ℕ, List, subst}
 use Rattle.script_tree.specs.declared.form.BasicForm.{BasicForm}
 use Rattle.script_tree.specs.declared.form.BasicForm.TheVariants as basic_form
 use Rattle.script_tree.specs.declared.form.CompForm.{CompForm}
@@ -17,8 +17,6 @@ use Rattle.script_tree.specs.declared.form.GroupForm.TheVariants as group_form
 use Rattle.script_tree.specs.declared.form.Form.{Form}
 use Rattle.script_tree.specs.declared.form.Form.TheVariants as form
 use Rattle.script_tree.specs.declared.opener.Opener.{Opener}
-use Rattle.script_tree.specs.declared.opener.Opener.TheVariants as opener
-use Rattle.script_tree.specs.declared.program.EventTree.{EventTree}
 use Rattle.script_tree.specs.declared.program.Stmt.{Stmt}
 use Rattle.script_tree.specs.Forms.{shapes}
 use Rattle.script_tree.specs.Lines.{basic_form_made, comp_form_made, object_form_made, fiber_form_made, block_form_made, group_form_made, event_form_made}
@@ -27,7 +25,7 @@ use Rattle.script_tree.specs.Reading.{State}
 use Rattle.script_tree.specs.Tree.{Tree}
 use Rattle.script_tree.specs.WellFormed.{PartsFit, StmtFits, OpenerFits, EventFits}
 use Rattle.script_tree.proofs.Fitting.{NamesFit}
-use Rattle.script_tree.proofs.Moves.{IsStated, basic, on_comps, on_objects, on_fibers, IsBlock, a_block, IsSelect, a_select, IsGroup, a_group, opens_block}
+use Rattle.script_tree.proofs.Moves.{IsStated, basic, on_comps, on_objects, on_fibers, IsBlock, a_block, IsSelect, a_select, IsGroup, a_group}
 use Rattle.script_tree.proofs.Readings.{ArePartsOf}
 use Rattle.script_tree.proofs.Rebuilding.{rebuilt, words_are, rebuilt_fits}
 

@@ -1,5 +1,5 @@
 use Rattle.std.proofs.lemmas.Result.{IfOk-weaker}
-use Rattle.std.proofs.Common.{refl, sym, ◌∙◌}
+use Rattle.std.proofs.Common.{sym}
 use Rattle.pic_run.specs.Refusal.{not_served, unserved}
 use Rattle.pic_run.specs.Request.{run}
 use Rattle.pic_run.proofs.Calls.{answers_ran, answers_told}

@@ -1,7 +1,7 @@
 use Rattle.std.proofs.Common.{ℕ, length, ◌∙◌, ap}
 use Rattle.pic_run.specs.Meaning.{with_register}
 use Rattle.pic_run.specs.Past.{world_of}
-use Rattle.pic_run.proofs.Running.{IsOneOf_number, IsOneOf_small, completes}
+use Rattle.pic_run.proofs.Running.{IsOneOf_small, completes}
 use Rattle.pic_run.proofs.fiber.Fiber.complete.Goals as goal
 
 pub number_of-comp-requires : goal.number_of-comp-requires

@@ -49,11 +49,11 @@ moves_declare s tree known (begins_fiber parts p h full) l d =
     record { decls = d.decls; texts = text_begins s tree (record { name = name_in (part_at parts 0); block = length s.blocks }) refl l.blocks d.texts }
 moves_declare s tree known (begins_main h) l d =
     record { decls = d.decls; texts = text_begins s tree (record { name = codes "main"; block = length s.blocks }) refl l.blocks d.texts }
-moves_declare s tree known (states x p h full) l d = record { decls = d.decls; texts = d.texts }
-moves_declare s tree known (adds_leaf f parts p h) l d = record { decls = d.decls; texts = d.texts }
-moves_declare s tree known (opens o p h full) l d = record { decls = d.decls; texts = d.texts }
-moves_declare s tree known (opens_select o p h full) l d = record { decls = d.decls; texts = d.texts }
-moves_declare s tree known (opens_group o p h) l d = record { decls = d.decls; texts = d.texts }
+moves_declare s tree known (states x p h full breaks) l d = record { decls = d.decls; texts = d.texts }
+moves_declare s tree known (adds_leaf f parts p h few) l d = record { decls = d.decls; texts = d.texts }
+moves_declare s tree known (opens o p h full deep) l d = record { decls = d.decls; texts = d.texts }
+moves_declare s tree known (opens_select o p h full deep) l d = record { decls = d.decls; texts = d.texts }
+moves_declare s tree known (opens_group o p h deep) l d = record { decls = d.decls; texts = d.texts }
 moves_declare s tree known (begins_else a q b is) l d = record { decls = d.decls; texts = d.texts }
 moves_declare s tree known (begins_catch parts p is) l d = record { decls = d.decls; texts = d.texts }
 moves_declare s tree known (ends_text f behind e h ends) l d = record { decls = d.decls; texts = d.texts }

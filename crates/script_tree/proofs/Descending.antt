@@ -68,11 +68,11 @@ pub moves_descend : (s : State) {t : State} → Moves s t → BlocksDescend s �
 moves_descend s (declares f parts p h full) d = d
 moves_descend s (begins_fiber parts p h full) d = new_descend s.blocks (frame opener.Text (length s.blocks) outermost) (s.top ∷ s.outer) refl d
 moves_descend s (begins_main h) d = new_descend s.blocks (frame opener.Main (length s.blocks) outermost) (s.top ∷ s.outer) refl d
-moves_descend s (states x p h full) d = d
-moves_descend s (adds_leaf f parts p h) d = d
-moves_descend s (opens o p h full) d = new_descend s.blocks (frame o (length s.blocks) (inside s.top.level o)) (s.top ∷ s.outer) refl d
-moves_descend s (opens_select o p h full) d = select_descend s o (length s.blocks) 0 (open_blocks (s.top ∷ s.outer)) p d
-moves_descend s (opens_group o p h) d = group_descend s o (length s.blocks) (length s.events) (open_blocks (s.top ∷ s.outer)) p d
+moves_descend s (states x p h full breaks) d = d
+moves_descend s (adds_leaf f parts p h few) d = d
+moves_descend s (opens o p h full deep) d = new_descend s.blocks (frame o (length s.blocks) (inside s.top.level o)) (s.top ∷ s.outer) refl d
+moves_descend s (opens_select o p h full deep) d = select_descend s o (length s.blocks) 0 (open_blocks (s.top ∷ s.outer)) p d
+moves_descend s (opens_group o p h deep) d = group_descend s o (length s.blocks) (length s.events) (open_blocks (s.top ∷ s.outer)) p d
 moves_descend s (begins_else l q r is) d = part_descend s (opener.Otherwise l q r s.top.place) d
 moves_descend s (begins_catch parts p is) d = part_descend s (opener.Catch s.top.place (number_in (part_at parts 0))) d
 moves_descend s (ends_text f behind e h ends) d = behind_descend s.top.what behind _ f ends

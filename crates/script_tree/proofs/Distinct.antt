@@ -102,11 +102,11 @@ pub moves_distinct : (s : State) {t : State} → Moves s t → AreDistinct (byte
 moves_distinct s (declares f parts p h full) d = name_pushed s.names _ d (declared_free s.names f p.words parts p.read)
 moves_distinct s (begins_fiber parts p h full) d = name_pushed s.names _ d (read_free s.names [] p.words parts p.read)
 moves_distinct s (begins_main h) d = d
-moves_distinct s (states x p h full) d = d
-moves_distinct s (adds_leaf f parts p h) d = d
-moves_distinct s (opens o p h full) d = d
-moves_distinct s (opens_select o p h full) d = d
-moves_distinct s (opens_group o p h) d = d
+moves_distinct s (states x p h full breaks) d = d
+moves_distinct s (adds_leaf f parts p h few) d = d
+moves_distinct s (opens o p h full deep) d = d
+moves_distinct s (opens_select o p h full deep) d = d
+moves_distinct s (opens_group o p h deep) d = d
 moves_distinct s (begins_else a q b is) d = d
 moves_distinct s (begins_catch parts p is) d = d
 moves_distinct s (ends_text f behind e h ends) d = d

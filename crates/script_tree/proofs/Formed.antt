@@ -7,9 +7,12 @@ use Rattle.script_tree.specs.declared.opener.Opener.{Opener}
 use Rattle.script_tree.specs.declared.opener.Opener.TheVariants as opener
 use Rattle.script_tree.specs.Grammar.{IsScript, tree_of}
 use Rattle.script_tree.specs.Reading.{State, Frame, start, is_over}
+use Rattle.script_tree.specs.Leaves.{SelectKeepsLimit}
 use Rattle.script_tree.specs.Tree.{Tree}
 use Rattle.script_tree.specs.WellFormed.{IsWellFormed, IsProgram, KeepsLimits, AreDistinct}
+use Rattle.script_tree.proofs.Ends.{HasClosed, closed_itself, closed_back}
 use Rattle.script_tree.proofs.Counting.{FewDecls, FewTexts, moves_decls, moves_texts}
+use Rattle.script_tree.proofs.Deep.{LevelsMade, levels_first, levels_next, has_levels}
 use Rattle.script_tree.proofs.Declaring.{Declares, moves_declare, MainIsLast, main_last}
 use Rattle.script_tree.proofs.Descending.{moves_descend}
 use Rattle.script_tree.proofs.Distinct.{bytes_of, moves_distinct}
@@ -25,6 +28,8 @@ use Rattle.script_tree.proofs.Moving.{moves}
 use Rattle.script_tree.proofs.Nesting.{IsNested, Nested}
 use Rattle.script_tree.proofs.Paths.{Path, begin, more, BlocksDescend}
 use Rattle.script_tree.proofs.Pathways.{path_of}
+use Rattle.script_tree.proofs.Selecting.{LeavesCounted, moves_leaves}
+use Rattle.script_tree.proofs.EachStatement.{Each, moves_each, new_keeps}
 use Rattle.script_tree.proofs.Stating.{FewStatements, moves_state}
 
 -- what holds of each state on a path
@@ -39,12 +44,15 @@ record Stands (s : State) : Type 0 where
   few_decls : FewDecls s.counts s.decls
   few_texts : FewTexts s
   few_statements : FewStatements s
+  levels : LevelsMade s
 
 -- and of what was read, in a tree that has it
 record FitsIn (s : State) (tree : Tree) : Type 0 where
   names : NamesFit tree s.names
   declares : Declares s tree
   holds : Holds s tree
+  leaves : LeavesCounted s tree
+  selects : Each (SelectKeepsLimit tree) s
 
 -- ---- along a path
 
@@ -70,6 +78,7 @@ stands_first = record {
   };
   few_texts = omega arith;
   few_statements = record { all = omega arith; few = omega arith };
+  levels = levels_first;
 }
 
 stands_next : (s t : State) → Moves s t → Stands s → Stands t
@@ -86,6 +95,7 @@ stands_next s t m h =
       few_decls = moves_decls s m h.few_decls;
       few_texts = moves_texts s m texts h.nested h.few_texts;
       few_statements = moves_state s m h.few_statements;
+      levels = levels_next s t m h.levels;
     }
 
 stands : {s : State} {lines : List (List (List ℕ))} → Path s lines → Stands s
@@ -102,22 +112,26 @@ fits_first tree = record {
     events = λ place e is. absurd (none-some e is);
     frames = (record { what = tt; stmts = tt; events = tt; members = λ h. tt }, tt);
   };
+  leaves = record { all = λ ev. absurd (false≢true ev); few = omega arith };
+  selects = record { blocks = tt; frames = (tt, tt) };
 }
 
-fits_next : (s t : State) (tree : Tree) → Moves s t → Stands s → LastsIn t tree → FitsIn s tree → FitsIn t tree
-fits_next s t tree m h l f =
+fits_next : (s t : State) (tree : Tree) → Moves s t → Stands s → LastsIn t tree → HasClosed t tree → FitsIn s tree → FitsIn t tree
+fits_next s t tree m h l closed f =
     record {
       names = moves_names s tree m h.nested l f.names;
       declares = moves_declare s tree f.names m l f.declares;
       holds = moves_hold s tree h.nested h.blocks h.groups f.names (lasts_in s tree m h.nested l) f.holds m l;
+      leaves = moves_leaves s tree m h.groups closed f.leaves;
+      selects = moves_each (SelectKeepsLimit tree) s f.selects m (new_keeps s tree f.leaves);
     }
 
-fits : {s : State} {lines : List (List (List ℕ))} (tree : Tree) → Path s lines → LastsIn s tree → FitsIn s tree
-fits tree begin l = fits_first tree
-fits tree (more {s = before} {words = words} line path taken bare) l =
+fits : {s : State} {lines : List (List (List ℕ))} (tree : Tree) → Path s lines → LastsIn s tree → HasClosed s tree → FitsIn s tree
+fits tree begin l closed = fits_first tree
+fits tree (more {s = before} {words = words} line path taken bare) l closed =
     let h = stands path in
     let m = moves before _ words line taken bare h.nested in
-    fits_next before _ tree m h l (fits tree path (lasts_in before tree m h.nested l))
+    fits_next before _ tree m h l closed (fits tree path (lasts_in before tree m h.nested l) (closed_back before tree m closed))
 
 -- ---- at the end
 
@@ -127,8 +141,8 @@ over_alone opener.Over [] h n = refl
 over_alone opener.Over (f ∷ fs) h n = absurd (false≢true n.0)
 over_alone _ fs h n = absurd (false≢true h)
 
-keeps_limits : (s : State) → main_count s ≡ 1 → Stands s → KeepsLimits (tree_of s)
-keeps_limits s one h =
+keeps_limits : (s : State) → main_count s ≡ 1 → Stands s → FitsIn s (tree_of s) → KeepsLimits (tree_of s)
+keeps_limits s one h f =
     let d = h.few_decls in
     let texts = h.few_texts in
     let all = h.few_statements.all in
@@ -139,6 +153,7 @@ keeps_limits s one h =
       objects = le_trans d.objects d.few_objects;
       texts = omega (arith, one, texts);
       statements = omega (arith, all, few);
+      events = f.selects.blocks;
     }
 
 -- what is read until the file is over is well-formed
@@ -146,7 +161,7 @@ formed : (s : State) (lines : List (List (List ℕ))) → Path s lines → is_ov
 formed s lines path over =
     let h = stands path in
     let one = over_alone s.top.what s.outer over h.nested in
-    let f = fits (tree_of s) path (lasts_itself s h.nested one) in
+    let f = fits (tree_of s) path (lasts_itself s h.nested one) (closed_itself s) in
     record {
       decls = f.declares.decls;
       texts = f.declares.texts;
@@ -154,7 +169,8 @@ formed s lines path over =
       blocks = f.holds.blocks;
       events = f.holds.events;
       names = distinct_names s one h.distinct h.knows;
-      limits = keeps_limits s one h;
+      limits = keeps_limits s one h f;
+      levels = has_levels s h.levels;
     }
 
 -- each program is well-formed

@@ -51,10 +51,10 @@ opens_no_group (opener.Wrap p) h = absurd (false≢true h)
 opens_no_group (opener.Guard l t r) h = absurd (false≢true h)
 opens_no_group _ h = refl
 
-block_no_group : (s : State) (o : Opener) → IsBlock s o → is_group o ≡ false
+pub block_no_group : (s : State) (o : Opener) → IsBlock s o → is_group o ≡ false
 block_no_group s o (a_block f parts p is) = opens_no_group o is
 
-select_no_group : (s : State) (o : Opener) → IsSelect s o → is_group o ≡ false
+pub select_no_group : (s : State) (o : Opener) → IsSelect s o → is_group o ≡ false
 select_no_group s o (a_select n v f parts p is) = refl
 
 pub behind_no_group : (o behind : Opener) → Ends o behind → is_group behind ≡ false
@@ -69,11 +69,11 @@ pub moves_groups : (s : State) {t : State} → Moves s t → GroupsDescend s →
 moves_groups s (declares f parts p h full) d = d
 moves_groups s (begins_fiber parts p h full) d = d
 moves_groups s (begins_main h) d = d
-moves_groups s (states x p h full) d = d
-moves_groups s (adds_leaf f parts p h) d = more_events s _ (open_groups (s.top ∷ s.outer)) d
-moves_groups s (opens o p h full) d = no_group (length s.events) (frame o (length s.blocks) (inside s.top.level o)) (s.top ∷ s.outer) (block_no_group s o p) d
-moves_groups s (opens_select o p h full) d = no_group (length s.events) (frame o 0 (inside s.top.level o)) (s.top ∷ s.outer) (select_no_group s o p) d
-moves_groups s (opens_group o p h) d = new_group s o (open_groups (s.top ∷ s.outer)) (is_group o) d
+moves_groups s (states x p h full breaks) d = d
+moves_groups s (adds_leaf f parts p h few) d = more_events s _ (open_groups (s.top ∷ s.outer)) d
+moves_groups s (opens o p h full deep) d = no_group (length s.events) (frame o (length s.blocks) (inside s.top.level o)) (s.top ∷ s.outer) (block_no_group s o p) d
+moves_groups s (opens_select o p h full deep) d = no_group (length s.events) (frame o 0 (inside s.top.level o)) (s.top ∷ s.outer) (select_no_group s o p) d
+moves_groups s (opens_group o p h deep) d = new_group s o (open_groups (s.top ∷ s.outer)) (is_group o) d
 moves_groups s (begins_else l q r is) d = around_groups (length s.events) s.top s.outer d
 moves_groups s (begins_catch parts p is) d = around_groups (length s.events) s.top s.outer d
 moves_groups s (ends_text f behind e h ends) d = no_group (length s.events) (record f { what = behind }) [] (behind_no_group s.top.what behind ends) tt

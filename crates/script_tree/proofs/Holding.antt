@@ -172,15 +172,15 @@ module _ (s : State) (tree : Tree) (n : IsNested s) (d : BlocksDescend s) (g : G
   moves_hold (declares f parts p holds full) m = record { blocks = h.blocks; events = h.events; frames = h.frames }
   moves_hold (begins_fiber parts p holds full) m = record { blocks = with_block; events = h.events; frames = text_holds opener.Text tt }
   moves_hold (begins_main holds) m = record { blocks = with_block; events = h.events; frames = text_holds opener.Main tt }
-  moves_hold (states x p holds full) m =
+  moves_hold (states x p holds full breaks) m =
       record { blocks = h.blocks; events = h.events; frames = with_stmt_holds s.top s.outer x (stated_fits s tree s.top.place x known p) h.frames }
-  moves_hold (adds_leaf f parts p holds) m = record {
+  moves_hold (adds_leaf f parts p holds few) m = record {
     blocks = h.blocks;
     events = push_keeps (λ place e. EventFits tree place e) s.events (event_form_made f parts) h.events (leaf_fits s tree (length s.events) f parts known p);
     frames = with_event_holds s.top s.outer (length s.events) (new_event _ (sym (length-append s.events (event_form_made f parts ∷ []))) m.events)
         (λ is. (inner_group (length s.events) s.top s.outer is g).0) h.frames;
   }
-  moves_hold (opens o p holds full) m = record {
+  moves_hold (opens o p holds full deep) m = record {
     blocks = with_block;
     events = h.events;
     frames = (
@@ -189,7 +189,7 @@ module _ (s : State) (tree : Tree) (n : IsNested s) (d : BlocksDescend s) (g : G
       h.frames,
     );
   }
-  moves_hold (opens_select o p holds full) m = record {
+  moves_hold (opens_select o p holds full deep) m = record {
     blocks = h.blocks;
     events = h.events;
     frames = (
@@ -198,7 +198,7 @@ module _ (s : State) (tree : Tree) (n : IsNested s) (d : BlocksDescend s) (g : G
       h.frames,
     );
   }
-  moves_hold (opens_group o p holds) m = record {
+  moves_hold (opens_group o p holds deep) m = record {
     blocks = h.blocks;
     events = push_keeps (λ place e. EventFits tree place e) s.events (event.Choose []) h.events tt;
     frames = (

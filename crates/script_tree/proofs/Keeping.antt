@@ -50,11 +50,11 @@ pub moves_nested : (s : State) {t : State} → Moves s t → IsNested s → IsNe
 moves_nested s (declares f parts p h full) n = n
 moves_nested s (begins_fiber parts p h full) n = (h, n)
 moves_nested s (begins_main h) n = (h, n)
-moves_nested s (states x p h full) n = n
-moves_nested s (adds_leaf f parts p h) n = n
-moves_nested s (opens o p h full) n = (block_in s o s.top.what p ∙ h, n)
-moves_nested s (opens_select o p h full) n = (select_in s o s.top.what p ∙ h, n)
-moves_nested s (opens_group o p h) n = (group_in s o s.top.what p ∙ h, n)
+moves_nested s (states x p h full breaks) n = n
+moves_nested s (adds_leaf f parts p h few) n = n
+moves_nested s (opens o p h full deep) n = (block_in s o s.top.what p ∙ h, n)
+moves_nested s (opens_select o p h full deep) n = (select_in s o s.top.what p ∙ h, n)
+moves_nested s (opens_group o p h deep) n = (group_in s o s.top.what p ∙ h, n)
 moves_nested s (begins_else l q r is) n =
     part_in (opener.Then l q r) (opener.Otherwise l q r s.top.place) s.outer refl (λ around. refl) (subst (λ o. Nested o s.outer) is n)
 moves_nested s (begins_catch parts p is) n = part_in opener.Try (opener.Catch s.top.place _) s.outer refl (λ around. refl) (subst (λ o. Nested o s.outer) is n)

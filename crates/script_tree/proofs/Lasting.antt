@@ -48,11 +48,11 @@ lasts s (declares f parts p h full) =
     record { more = record { name = name_in (part_at parts 0); kind = kind_made f parts } ∷ []; decls = refl; blocks = le_refl _; events = le_refl _ }
 lasts s (begins_fiber parts p h full) = record { more = []; decls = sym (append-nil s.decls); blocks = longer s.blocks []; events = le_refl _ }
 lasts s (begins_main h) = record { more = []; decls = sym (append-nil s.decls); blocks = longer s.blocks []; events = le_refl _ }
-lasts s (states x p h full) = record { more = []; decls = sym (append-nil s.decls); blocks = le_refl _; events = le_refl _ }
-lasts s (adds_leaf f parts p h) = record { more = []; decls = sym (append-nil s.decls); blocks = le_refl _; events = longer s.events _ }
-lasts s (opens o p h full) = record { more = []; decls = sym (append-nil s.decls); blocks = longer s.blocks []; events = le_refl _ }
-lasts s (opens_select o p h full) = record { more = []; decls = sym (append-nil s.decls); blocks = le_refl _; events = le_refl _ }
-lasts s (opens_group o p h) = record { more = []; decls = sym (append-nil s.decls); blocks = le_refl _; events = longer s.events _ }
+lasts s (states x p h full breaks) = record { more = []; decls = sym (append-nil s.decls); blocks = le_refl _; events = le_refl _ }
+lasts s (adds_leaf f parts p h few) = record { more = []; decls = sym (append-nil s.decls); blocks = le_refl _; events = longer s.events _ }
+lasts s (opens o p h full deep) = record { more = []; decls = sym (append-nil s.decls); blocks = longer s.blocks []; events = le_refl _ }
+lasts s (opens_select o p h full deep) = record { more = []; decls = sym (append-nil s.decls); blocks = le_refl _; events = le_refl _ }
+lasts s (opens_group o p h deep) = record { more = []; decls = sym (append-nil s.decls); blocks = le_refl _; events = longer s.events _ }
 lasts s (begins_else l q r is) =
     record { more = []; decls = sym (append-nil s.decls); blocks = longer_set s.blocks s.top.place s.top.stmts []; events = le_refl _ }
 lasts s (begins_catch parts p is) =
@@ -92,7 +92,7 @@ pub all_push : {A : Type 0} (P : A → Type 0) (xs : List A) (x : A) → AllByRe
 all_push P [] x h p = (p, tt)
 all_push P (y ∷ ys) x h p = (h.0, all_push P ys x h.1 p)
 
-at_end : {A : Type 0} (xs : List A) (x : A) (ys : List A) → slice_get ((xs ++ x ∷ []) ++ ys) (length xs) ≡ Some x
+pub at_end : {A : Type 0} (xs : List A) (x : A) (ys : List A) → slice_get ((xs ++ x ∷ []) ++ ys) (length xs) ≡ Some x
 at_end [] x ys = refl
 at_end (y ∷ xs) x ys = at_end xs x ys
 
@@ -123,11 +123,11 @@ moves_names s tree (begins_fiber parts p h full) n l names =
     let more = length-append s.texts (record { name = name_in (part_at parts 0); block = length s.blocks } ∷ []) in
     let fits = l.texts in omega (arith, fits, none, more))
 moves_names s tree (begins_main h) n l names = names
-moves_names s tree (states x p h full) n l names = names
-moves_names s tree (adds_leaf f parts p h) n l names = names
-moves_names s tree (opens o p h full) n l names = names
-moves_names s tree (opens_select o p h full) n l names = names
-moves_names s tree (opens_group o p h) n l names = names
+moves_names s tree (states x p h full breaks) n l names = names
+moves_names s tree (adds_leaf f parts p h few) n l names = names
+moves_names s tree (opens o p h full deep) n l names = names
+moves_names s tree (opens_select o p h full deep) n l names = names
+moves_names s tree (opens_group o p h deep) n l names = names
 moves_names s tree (begins_else a q b is) n l names = names
 moves_names s tree (begins_catch parts p is) n l names = names
 moves_names s tree (ends_text f behind e h ends) n l names = names

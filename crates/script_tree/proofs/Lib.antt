@@ -1,14 +1,20 @@
+pub mod AllStanding
 pub mod Allowed
 pub mod Ascii
+pub mod AtLevels
+pub mod BlockTexts
 pub mod Classed
 pub mod Closings
 pub mod Counting
 pub mod Declaring
+pub mod Deep
 pub mod Descending
 pub mod Distinct
 pub mod Each
+pub mod EachStatement
 pub mod Elements
 pub mod Endings
+pub mod Ends
 pub mod Fitting
 pub mod Formed
 pub mod Frames
@@ -23,6 +29,7 @@ pub mod Knowing
 pub mod KnownNames
 pub mod Lasting
 pub mod Leads
+pub mod Levelling
 pub mod Levels
 pub mod Made
 pub mod Mains
@@ -42,6 +49,7 @@ pub mod Remade
 pub mod Replaying
 pub mod RoundTrip
 pub mod Said
+pub mod Selecting
 pub mod Settled
 pub mod Shown
 pub mod Spanning

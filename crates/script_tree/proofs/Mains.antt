@@ -106,11 +106,11 @@ texts_move s (begins_fiber parts p h full) n =
     a_fiber (record { name = name_in (part_at parts 0); block = length s.blocks }) refl none none
 texts_move s (begins_main h) n =
     main_begun (record { name = codes "main"; block = length s.blocks }) refl refl (file_mains s.top.what s.outer h n) refl
-texts_move s (states x p h full) n = same_texts refl refl
-texts_move s (adds_leaf f parts p h) n = same_texts refl refl
-texts_move s (opens o p h full) n = same_texts refl (inner_mains o s.top s.outer (block_inner s o p))
-texts_move s (opens_select o p h full) n = same_texts refl (inner_mains o s.top s.outer (select_inner s o p))
-texts_move s (opens_group o p h) n = same_texts refl (inner_mains o s.top s.outer (group_inner s o p))
+texts_move s (states x p h full breaks) n = same_texts refl refl
+texts_move s (adds_leaf f parts p h few) n = same_texts refl refl
+texts_move s (opens o p h full deep) n = same_texts refl (inner_mains o s.top s.outer (block_inner s o p))
+texts_move s (opens_select o p h full deep) n = same_texts refl (inner_mains o s.top s.outer (select_inner s o p))
+texts_move s (opens_group o p h deep) n = same_texts refl (inner_mains o s.top s.outer (group_inner s o p))
 texts_move s (begins_else l q r is) n =
     same_texts refl (part_mains (opener.Then l q r) (opener.Otherwise l q r s.top.place) s.outer (refl, refl) (refl, refl) ∙ ap (λ o. mains o s.outer) (sym is))
 texts_move s (begins_catch parts p is) n =

@@ -20,9 +20,13 @@ use Rattle.script_tree.specs.declared.program.Stmt.TheVariants as stmt
 use Rattle.script_tree.specs.declared.program.Test.{Test}
 use Rattle.script_tree.specs.Lines.{number_in, name_in, part_at, kind_made, basic_form_made, comp_form_made, object_form_made, fiber_form_made, block_form_made, event_form_made, group_form_made}
 use Rattle.script_tree.specs.Parts.{Part}
-use Rattle.script_tree.specs.Reading.{State, Frame, is_head, holds_statements, holds_events, is_kind_full, declared, fiber_begun, text_begun, stated, leaf_added, block_opened, select_opened, group_opened, part_begun, with_stmt, with_event}
+use Rattle.script_tree.specs.Reading.{State, Frame, is_head, holds_statements, holds_events, is_kind_full, declared, fiber_begun, text_begun, stated, leaf_added, block_opened, select_opened, group_opened, part_begun, with_stmt, with_event, is_deep}
 use Rattle.script_tree.proofs.Nesting.{takes_texts}
 use Rattle.script_tree.proofs.Readings.{ArePartsOf}
+
+abbrev pub is_break : Stmt → Bool
+is_break stmt.Break = true
+is_break _ = false
 
 -- a statement that is a line of its own
 pub data IsStated (s : State) : Stmt → Type 0 where
@@ -91,13 +95,15 @@ pub data Moves (s : State) : State → Type 0 where
   begins_fiber : (parts : List Part) → ArePartsOf s form.Fiber parts → takes_texts s.top.what ≡ true → nat_le 64 (length s.texts) ≡ false
       → Moves s (fiber_begun s (name_in (part_at parts 0)))
   begins_main : takes_texts s.top.what ≡ true → Moves s (text_begun s opener.Main (codes "main"))
-  states : (x : Stmt) → IsStated s x → holds_statements s.top.what ≡ true → nat_le 10000 s.counts.statements ≡ false → Moves s (stated s x)
+  states : (x : Stmt) → IsStated s x → holds_statements s.top.what ≡ true → nat_le 10000 s.counts.statements ≡ false
+      → (is_break x ≡ true → s.top.level.breaks ≡ true) → Moves s (stated s x)
   adds_leaf : (f : EventForm) (parts : List Part) → ArePartsOf s (form.Event f) parts → holds_events s.top.what ≡ true
-      → Moves s (leaf_added s (event_form_made f parts))
-  opens : (o : Opener) → IsBlock s o → holds_statements s.top.what ≡ true → nat_le 10000 s.counts.statements ≡ false → Moves s (block_opened s o)
+      → nat_le 32 s.counts.leaves ≡ false → Moves s (leaf_added s (event_form_made f parts))
+  opens : (o : Opener) → IsBlock s o → holds_statements s.top.what ≡ true → nat_le 10000 s.counts.statements ≡ false
+      → is_deep s.top.level o ≡ false → Moves s (block_opened s o)
   opens_select : (o : Opener) → IsSelect s o → holds_statements s.top.what ≡ true → nat_le 10000 s.counts.statements ≡ false
-      → Moves s (select_opened s o)
-  opens_group : (o : Opener) → IsGroup s o → holds_events s.top.what ≡ true → Moves s (group_opened s o)
+      → is_deep s.top.level o ≡ false → Moves s (select_opened s o)
+  opens_group : (o : Opener) → IsGroup s o → holds_events s.top.what ≡ true → is_deep s.top.level o ≡ false → Moves s (group_opened s o)
   begins_else : (l : Operand) (t : Test) (r : Operand) → s.top.what ≡ opener.Then l t r
       → Moves s (part_begun s (opener.Otherwise l t r s.top.place))
   begins_catch : (parts : List Part) → ArePartsOf s form.Catch parts → s.top.what ≡ opener.Try

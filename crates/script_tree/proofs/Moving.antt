@@ -4,6 +4,12 @@ use Rattle.std.proofs.lemmas.Bool.{false≢true, and_parts}
 use Rattle.script_tree.specs.declared.cause.Cause.TheVariants as cause
 use Rattle.script_tree.specs.declared.form.BasicForm.{BasicForm}
 use Rattle.script_tree.specs.declared.form.BasicForm.TheVariants as basic_form
+use Rattle.script_tree.specs.declared.form.CompForm.{CompForm}
+use Rattle.script_tree.specs.declared.form.CompForm.TheVariants as comp_form
+use Rattle.script_tree.specs.declared.form.ObjectForm.{ObjectForm}
+use Rattle.script_tree.specs.declared.form.ObjectForm.TheVariants as object_form
+use Rattle.script_tree.specs.declared.form.FiberForm.{FiberForm}
+use Rattle.script_tree.specs.declared.form.FiberForm.TheVariants as fiber_form
 use Rattle.script_tree.specs.declared.form.BlockForm.{BlockForm}
 use Rattle.script_tree.specs.declared.form.BlockForm.TheVariants as block_form
 use Rattle.script_tree.specs.declared.form.GroupForm.{GroupForm}
@@ -19,24 +25,24 @@ use Rattle.script_tree.specs.declared.program.Operand.{Operand}
 use Rattle.script_tree.specs.declared.program.Stmt.{Stmt}
 use Rattle.script_tree.specs.declared.program.Stmt.TheVariants as stmt
 use Rattle.script_tree.specs.declared.program.Test.{Test}
-use Rattle.script_tree.specs.Lines.{line_made, block_form_made, group_form_made}
+use Rattle.script_tree.specs.Lines.{line_made, block_form_made, group_form_made, basic_form_made, comp_form_made, object_form_made, fiber_form_made}
 use Rattle.script_tree.specs.Parts.{Part}
-use Rattle.script_tree.specs.Reading.{State, Frame, after, closed, else_closed, opened, left, else_begun, is_head, is_between, is_then, is_try, holds_statements, holds_events, fits, is_full, is_line_deep, limit_broken, with_stmt, with_event}
-use Rattle.script_tree.proofs.Moves.{Moves, declares, begins_fiber, begins_main, states, adds_leaf, opens, opens_select, opens_group, begins_else, begins_catch, ends_text, ends_block, ends_select, ends_group, basic, on_comps, on_objects, on_fibers, a_block, a_select, a_group, Becomes, a_then, an_else, a_loop, a_handler, a_forbid, a_permit, an_under, a_link, a_protect, a_bundle, a_flock, Groups, a_choose, a_wrap, a_guard, Ends, a_text, the_main}
+use Rattle.script_tree.specs.Reading.{State, Frame, after, closed, else_closed, opened, left, else_begun, is_head, is_between, is_then, is_try, holds_statements, holds_events, fits, is_full, is_line_deep, limit_broken, with_stmt, with_event, is_deep}
+use Rattle.script_tree.proofs.Moves.{Moves, declares, begins_fiber, begins_main, states, adds_leaf, opens, opens_select, opens_group, begins_else, begins_catch, ends_text, ends_block, ends_select, ends_group, basic, on_comps, on_objects, on_fibers, a_block, a_select, a_group, Becomes, a_then, an_else, a_loop, a_handler, a_forbid, a_permit, an_under, a_link, a_protect, a_bundle, a_flock, Groups, a_choose, a_wrap, a_guard, Ends, a_text, the_main, is_break}
 use Rattle.script_tree.proofs.Nesting.{is_file, takes_texts, stands_in, Nested, IsNested}
 use Rattle.script_tree.proofs.Paths.{is_bare_else, ends_bare_else, Takes}
 use Rattle.script_tree.proofs.Readings.{ArePartsOf, is_read}
 
 -- ---- limits
 
-no_limit : (a b : Bool) → cond a (Some cause.TooDeep) (cond b (Some cause.TooMany) None) ≡ None → b ≡ false
+no_limit : (a b : Bool) → cond a (Some cause.TooDeep) (cond b (Some cause.TooMany) None) ≡ None → (a ≡ false) × (b ≡ false)
 no_limit true b h = cc
 no_limit false true h = cc
-no_limit false false h = refl
+no_limit false false h = (refl, refl)
 
--- a line within the limits isn't one too many
-not_full : (s : State) (l : Line) → limit_broken s l ≡ None → is_full s l ≡ false
-not_full s l h = no_limit (is_line_deep s.top.level l) (is_full s l) h
+-- a line within the limits is neither too deep nor one too many
+within : (s : State) (l : Line) → limit_broken s l ≡ None → (is_line_deep s.top.level l ≡ false) × (is_full s l ≡ false)
+within s l h = no_limit (is_line_deep s.top.level l) (is_full s l) h
 
 -- ---- what is open
 
@@ -189,24 +195,25 @@ closes s (opener.Guard l t r) breaks is fit bare n = groups s _ _ is n a_guard
 -- ---- openings
 
 block_begins : (s : State) (f : BlockForm) (parts : List Part) → ArePartsOf s (form.Block f) parts → holds_statements s.top.what ≡ true
-    → is_full s (line.Open (block_form_made f parts)) ≡ false → Moves s (opened s (block_form_made f parts))
-block_begins s block_form.If parts p h full = opens _ (a_block block_form.If parts p refl) h full
-block_begins s block_form.Loop parts p h full = opens _ (a_block block_form.Loop parts p refl) h full
-block_begins s block_form.Try parts p h full = opens _ (a_block block_form.Try parts p refl) h full
-block_begins s block_form.Forbid parts p h full = opens _ (a_block block_form.Forbid parts p refl) h full
-block_begins s block_form.Permit parts p h full = opens _ (a_block block_form.Permit parts p refl) h full
-block_begins s block_form.Under parts p h full = opens _ (a_block block_form.Under parts p refl) h full
-block_begins s block_form.Link parts p h full = opens _ (a_block block_form.Link parts p refl) h full
-block_begins s block_form.Protect parts p h full = opens _ (a_block block_form.Protect parts p refl) h full
-block_begins s block_form.Bundle parts p h full = opens _ (a_block block_form.Bundle parts p refl) h full
-block_begins s block_form.Flock parts p h full = opens _ (a_block block_form.Flock parts p refl) h full
-block_begins s block_form.Select parts p h full = opens_select _ (a_select _ _ block_form.Select parts p refl) h full
+    → is_deep s.top.level (block_form_made f parts) ≡ false → is_full s (line.Open (block_form_made f parts)) ≡ false
+    → Moves s (opened s (block_form_made f parts))
+block_begins s block_form.If parts p h deep full = opens _ (a_block block_form.If parts p refl) h full deep
+block_begins s block_form.Loop parts p h deep full = opens _ (a_block block_form.Loop parts p refl) h full deep
+block_begins s block_form.Try parts p h deep full = opens _ (a_block block_form.Try parts p refl) h full deep
+block_begins s block_form.Forbid parts p h deep full = opens _ (a_block block_form.Forbid parts p refl) h full deep
+block_begins s block_form.Permit parts p h deep full = opens _ (a_block block_form.Permit parts p refl) h full deep
+block_begins s block_form.Under parts p h deep full = opens _ (a_block block_form.Under parts p refl) h full deep
+block_begins s block_form.Link parts p h deep full = opens _ (a_block block_form.Link parts p refl) h full deep
+block_begins s block_form.Protect parts p h deep full = opens _ (a_block block_form.Protect parts p refl) h full deep
+block_begins s block_form.Bundle parts p h deep full = opens _ (a_block block_form.Bundle parts p refl) h full deep
+block_begins s block_form.Flock parts p h deep full = opens _ (a_block block_form.Flock parts p refl) h full deep
+block_begins s block_form.Select parts p h deep full = opens_select _ (a_select _ _ block_form.Select parts p refl) h full deep
 
 group_begins : (s : State) (f : GroupForm) (parts : List Part) → ArePartsOf s (form.Group f) parts → holds_events s.top.what ≡ true
-    → Moves s (opened s (group_form_made f parts))
-group_begins s group_form.Choose parts p h = opens_group _ (a_group group_form.Choose parts p) h
-group_begins s group_form.Wrap parts p h = opens_group _ (a_group group_form.Wrap parts p) h
-group_begins s group_form.Guard parts p h = opens_group _ (a_group group_form.Guard parts p) h
+    → is_deep s.top.level (group_form_made f parts) ≡ false → Moves s (opened s (group_form_made f parts))
+group_begins s group_form.Choose parts p h deep = opens_group _ (a_group group_form.Choose parts p) h deep
+group_begins s group_form.Wrap parts p h deep = opens_group _ (a_group group_form.Wrap parts p) h deep
+group_begins s group_form.Guard parts p h deep = opens_group _ (a_group group_form.Guard parts p) h deep
 
 else_begins : (s : State) (o : Opener) → s.top.what ≡ o → is_then o ≡ true → Moves s (else_begun s o)
 else_begins s (opener.Then l t r) is h = begins_else l t r is
@@ -216,23 +223,42 @@ basic_fits : (f : BasicForm) (o : Opener) (breaks : Bool) → fits o breaks (for
 basic_fits basic_form.Break o breaks h = (and_parts _ _ h).0
 basic_fits _ o breaks h = h
 
+-- a `break` stands only where one may
+breaks_fit : (f : BasicForm) (o : Opener) (breaks : Bool) (parts : List Part) → fits o breaks (form.Basic f) ≡ true
+    → is_break (basic_form_made f parts) ≡ true → breaks ≡ true
+breaks_fit basic_form.Break o breaks parts h is = (and_parts _ _ h).1
+breaks_fit _ o breaks parts h is = absurd (false≢true is)
+
+comp_no_break : (f : CompForm) (parts : List Part) → is_break (comp_form_made f parts) ≡ false
+comp_no_break comp_form.Signal parts = refl
+comp_no_break _ parts = refl
+
+object_no_break : (f : ObjectForm) (parts : List Part) → is_break (object_form_made f parts) ≡ false
+object_no_break object_form.Lock parts = refl
+object_no_break _ parts = refl
+
+fiber_no_break : (f : FiberForm) (parts : List Part) → is_break (fiber_form_made f parts) ≡ false
+fiber_no_break fiber_form.Spawn parts = refl
+fiber_no_break _ parts = refl
+
 -- ---- lines
 
 made_moves : (s : State) (f : Form) (parts : List Part) → ArePartsOf s f parts → fits s.top.what s.top.level.breaks f ≡ true
-    → is_full s (line_made f parts) ≡ false → ends_bare_else s (line_made f parts) ≡ false → IsNested s → Moves s (after s (line_made f parts))
-made_moves s (form.Declare f) parts p fit full bare n = declares f parts p fit full
-made_moves s form.Fiber parts p fit full bare n = begins_fiber parts p (file_takes_texts s.top.what fit) full
-made_moves s form.Main parts p fit full bare n = begins_main (file_takes_texts s.top.what fit)
-made_moves s form.End parts p fit full bare n = closes s s.top.what s.top.level.breaks refl fit bare n
-made_moves s form.Else parts p fit full bare n = else_begins s s.top.what refl fit
-made_moves s form.Catch parts p fit full bare n = begins_catch parts p (is_a_try s.top.what fit)
-made_moves s (form.Basic f) parts p fit full bare n = states _ (basic f parts p) (basic_fits f s.top.what s.top.level.breaks fit) full
-made_moves s (form.Comp f) parts p fit full bare n = states _ (on_comps f parts p) fit full
-made_moves s (form.Object f) parts p fit full bare n = states _ (on_objects f parts p) fit full
-made_moves s (form.Fork f) parts p fit full bare n = states _ (on_fibers f parts p) fit full
-made_moves s (form.Block f) parts p fit full bare n = block_begins s f parts p fit full
-made_moves s (form.Event f) parts p fit full bare n = adds_leaf f parts p fit
-made_moves s (form.Group f) parts p fit full bare n = group_begins s f parts p fit
+    → is_line_deep s.top.level (line_made f parts) ≡ false → is_full s (line_made f parts) ≡ false → ends_bare_else s (line_made f parts) ≡ false
+    → IsNested s → Moves s (after s (line_made f parts))
+made_moves s (form.Declare f) parts p fit deep full bare n = declares f parts p fit full
+made_moves s form.Fiber parts p fit deep full bare n = begins_fiber parts p (file_takes_texts s.top.what fit) full
+made_moves s form.Main parts p fit deep full bare n = begins_main (file_takes_texts s.top.what fit)
+made_moves s form.End parts p fit deep full bare n = closes s s.top.what s.top.level.breaks refl fit bare n
+made_moves s form.Else parts p fit deep full bare n = else_begins s s.top.what refl fit
+made_moves s form.Catch parts p fit deep full bare n = begins_catch parts p (is_a_try s.top.what fit)
+made_moves s (form.Basic f) parts p fit deep full bare n = states _ (basic f parts p) (basic_fits f s.top.what s.top.level.breaks fit) full (breaks_fit f s.top.what s.top.level.breaks parts fit)
+made_moves s (form.Comp f) parts p fit deep full bare n = states _ (on_comps f parts p) fit full (λ is. absurd (false≢true (sym (comp_no_break f parts) ∙ is)))
+made_moves s (form.Object f) parts p fit deep full bare n = states _ (on_objects f parts p) fit full (λ is. absurd (false≢true (sym (object_no_break f parts) ∙ is)))
+made_moves s (form.Fork f) parts p fit deep full bare n = states _ (on_fibers f parts p) fit full (λ is. absurd (false≢true (sym (fiber_no_break f parts) ∙ is)))
+made_moves s (form.Block f) parts p fit deep full bare n = block_begins s f parts p fit deep full
+made_moves s (form.Event f) parts p fit deep full bare n = adds_leaf f parts p fit full
+made_moves s (form.Group f) parts p fit deep full bare n = group_begins s f parts p fit deep
 
 -- a line that is read and doesn't end an empty `else` part is a move
 pub moves : (s t : State) (words : List (List ℕ)) (l : Line) → Takes s words l t → ends_bare_else s l ≡ false → IsNested s → Moves s t
@@ -240,4 +266,5 @@ moves s t words l taken bare n =
     let r = is_read s words l taken.read in
     let p : ArePartsOf s r.form r.parts = record { words = r.rest; read = r.read } in
     subst (λ u. Moves s u) (ap (λ k. after s k) r.is ∙ sym taken.is)
-    (made_moves s r.form r.parts p r.fit (ap (λ k. is_full s k) r.is ∙ not_full s l taken.within) (ap (λ k. ends_bare_else s k) r.is ∙ bare) n)
+    (made_moves s r.form r.parts p r.fit (ap (λ k. is_line_deep s.top.level k) r.is ∙ (within s l taken.within).0)
+    (ap (λ k. is_full s k) r.is ∙ (within s l taken.within).1) (ap (λ k. ends_bare_else s k) r.is ∙ bare) n)

@@ -94,11 +94,11 @@ began_bare : (s t : State) (lines : List (List (List ℕ))) → Path s lines →
 began_bare s t lines path (declares f parts p h full) b = absurd (head_not_bare s.top.what s.top.stmts h b)
 began_bare s t lines path (begins_fiber parts p h full) b = absurd (false≢true b)
 began_bare s t lines path (begins_main h) b = absurd (false≢true b)
-began_bare s t lines path (states x p h full) b = absurd (filled_not_bare s.top.what s.top.stmts x b)
-began_bare s t lines path (adds_leaf f parts p h) b = absurd (holder_of_events_not_bare s.top.what s.top.stmts h b)
-began_bare s t lines path (opens o p h full) b = absurd (block_opened_not_bare s o p b)
-began_bare s t lines path (opens_select o p h full) b = absurd (select_opened_not_bare s o p b)
-began_bare s t lines path (opens_group o p h) b = absurd (group_opened_not_bare s o p b)
+began_bare s t lines path (states x p h full breaks) b = absurd (filled_not_bare s.top.what s.top.stmts x b)
+began_bare s t lines path (adds_leaf f parts p h few) b = absurd (holder_of_events_not_bare s.top.what s.top.stmts h b)
+began_bare s t lines path (opens o p h full deep) b = absurd (block_opened_not_bare s o p b)
+began_bare s t lines path (opens_select o p h full deep) b = absurd (select_opened_not_bare s o p b)
+began_bare s t lines path (opens_group o p h deep) b = absurd (group_opened_not_bare s o p b)
 began_bare s t lines path (begins_else l q r is) b =
     record { before = s; lines = lines; path = path; left = l; test = q; right = r; what = is; is = refl }
 began_bare s t lines path (begins_catch parts p is) b = absurd (false≢true b)

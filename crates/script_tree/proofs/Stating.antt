@@ -129,19 +129,19 @@ pub moves_state : (s : State) {t : State} → Moves s t → FewStatements s → 
 moves_state s (declares f parts p h full) c = record { all = rw (statements_counted s.counts (kind_made f parts)) c.all; few = rw (statements_counted s.counts (kind_made f parts)) c.few }
 moves_state s (begins_fiber parts p h full) c = let all = c.all in record { all = rw with_empty (omega (arith, all)); few = c.few }
 moves_state s (begins_main h) c = let all = c.all in record { all = rw with_empty (omega (arith, all)); few = c.few }
-moves_state s (states x p h full) c =
+moves_state s (states x p h full breaks) c =
     let l = leb-false 10000 s.counts.statements full in
     let more = one_stmt_more s.top.stmts x in
     let all = c.all in
     record { all = omega (arith, more, all); few = omega (arith, l) }
-moves_state s (adds_leaf f parts p h) c = record { all = c.all; few = c.few }
-moves_state s (opens o p h full) c =
+moves_state s (adds_leaf f parts p h few) c = record { all = c.all; few = c.few }
+moves_state s (opens o p h full deep) c =
     let b = block_counts s o (frame o (length s.blocks) (inside s.top.level o)) refl (block_becomes s o p) full c in
     record { all = rw with_empty b.0; few = b.1 }
-moves_state s (opens_select o p h full) c =
+moves_state s (opens_select o p h full deep) c =
     let b = block_counts s o (frame o 0 (inside s.top.level o)) refl (select_becomes s o p) full c in
     record { all = b.0; few = b.1 }
-moves_state s (opens_group o p h) c =
+moves_state s (opens_group o p h deep) c =
     let none = group_becomes s o p in
     let all = c.all in
     record { all = omega (arith, none, all); few = c.few }

@@ -3,6 +3,8 @@ pub mod Cause
 pub mod Forms
 pub mod Grammar
 pub mod Known
+pub mod Leaves
+pub mod Levels
 pub mod Lines
 pub mod Names
 pub mod Parts

@@ -1,6 +1,6 @@
 -- What the parts of every program keep to: numbers are in their ranges, each place is that of a thing of
--- the sort that is wanted there, blocks and events stand behind what holds them, names are apart, and
--- there are no more things than a script may have.
+-- the sort that is wanted there, blocks and events stand behind what holds them, names are apart,
+-- there are no more things than a script may have, and none stands too deep.
 use Rattle.std.specs.Prelude.{◌≡◌, ◌≢◌, ℕ, ◌+◌, ◌^◌, ◌<◌, ◌≤◌, Bool, ◌||◌, ◌==◌, nat_le, IsTrue, Option, Some, None, List, [], ◌∷◌, ◌++◌, length, map, filter, codes, slice_get}
 use Rattle.std.specs.List.{AllByRecursion, flat_map}
 use Rattle.script_tree.specs.declared.form.Form.{Form}
@@ -19,6 +19,8 @@ use Rattle.script_tree.specs.declared.program.Text.{Text}
 use Rattle.script_tree.specs.declared.thing.Sort.TheVariants as sort
 use Rattle.script_tree.specs.Forms.{shapes}
 use Rattle.script_tree.specs.Grammar.{IsScript}
+use Rattle.script_tree.specs.Leaves.{SelectKeepsLimit}
+use Rattle.script_tree.specs.Levels.{HasLevels}
 use Rattle.script_tree.specs.Lines.{stmt_form, stmt_parts, opener_form, opener_parts, tree_form, event_parts}
 use Rattle.script_tree.specs.Names.{sort_of, sort_number}
 use Rattle.script_tree.specs.Parts.{Part, number_part, operand_part, comp_part, test_part, name_part, Shape, a_register, a_value, a_number, a_key, a_promise, a_comp, a_test, a_new_name, a_fillable, a_place}
@@ -141,6 +143,7 @@ pub record KeepsLimits (tree : Tree) : Type 0 where
   pub objects : how_many (λ s. nat_le 2 s) tree.decls ≤ 64
   pub texts : length tree.texts ≤ 65
   pub statements : length (flat_map (λ (block : List Stmt). block) tree.blocks) ≤ 10000
+  pub events : AllByRecursion (λ (block : List Stmt). AllByRecursion (SelectKeepsLimit tree) block) tree.blocks
 
 -- ---- programs
 
@@ -160,6 +163,7 @@ pub record IsWellFormed (tree : Tree) : Type 0 where
   pub events : (place : ℕ) (e : EventTree) → slice_get tree.events place ≡ Some e → EventFits tree place e
   pub names : AreDistinct (names tree)
   pub limits : KeepsLimits tree
+  pub levels : HasLevels tree
 
 -- what each program is: what some text is, and well-formed
 pub record IsProgram (tree : Tree) : Type 0 where

@@ -135,17 +135,18 @@ pub enum Stmt {
     Sub(u8, Operand),
     /// The register is multiplied by the value.
     Mul(u8, Operand),
-    /// Asks the input of its words, at the value; the register gets the answer.
+    /// The register gets how many words the input's line with this number has, counted from 1; 0 where
+    /// there is no such line.
     Words(u8, Operand),
-    /// Asks the input of a length, at the value; the register gets the answer.
+    /// The register gets how many bytes that line has, without its end; 0 where there is no such line.
     Len(u8, Operand),
     /// The value is put under the key into the fiber's storage.
     Put(u8, Operand),
-    /// The register gets what stands under the key in the fiber's storage.
+    /// The register gets what stands under the key in the fiber's storage, 0 at first.
     Get(u8, u8),
     /// The value is said, for the report.
     Say(Operand),
-    /// The value is raised, as an exception.
+    /// The value is raised, as the code of an exception.
     Raise(Operand),
     /// The innermost `loop` ends.
     Break,
@@ -167,7 +168,8 @@ pub enum Stmt {
     Cancel(u8, CompRef, Operand),
     /// The registers get how the computation stands, and its value or code.
     Peek(u8, u8, CompRef),
-    /// The end of the computation is awaited; the register is for what it returned.
+    /// The end of the computation is awaited; the register gets what it returned, and its code is
+    /// raised where it was cancelled.
     Wait(u8, CompRef),
     /// Cancels the computation after a time, the first value, with a code, the last one.
     After(Operand, CompRef, Operand),
@@ -203,11 +205,12 @@ pub enum Stmt {
     Read(u8, u32),
     /// The value is pushed to the stream.
     Push(u32, Operand),
-    /// The register gets a cursor, at the stream's end (Picos: `Stream.tap`).
+    /// The register gets a cursor: how many values were pushed so far (Picos: `Stream.tap`).
     Tap(u8, u32),
-    /// Reads what comes next in the stream, by way of the two registers (Picos: `Stream.read`).
+    /// The value at the cursor in the second register is awaited; the first register gets it, and the
+    /// second the cursor behind it (Picos: `Stream.read`).
     Next(u8, u8, u32),
-    /// Asks the input for a line; the register gets the answer.
+    /// The register gets the number of the next line of the input that no fiber has taken yet, or 0.
     Line(u8),
     /// A fiber begins to run the text, and is handed the value (Picos: `Fiber.spawn`).
     Spawn(u32, Operand),
@@ -275,7 +278,7 @@ pub enum EventTree {
     OnAlways(Operand),
     /// Any of these (Picos: `Event.choose`).
     Choose(Places),
-    /// Any of these, with what it gives changed by the value (Picos: `Event.wrap`).
+    /// Any of these, with the value added to what it gives (Picos: `Event.wrap`).
     Wrap(Operand, Places),
     /// Any of these, where the test holds (Picos: `Event.guard`).
     Guard(Operand, Test, Operand, Places),
@@ -297,9 +300,10 @@ impl Model for Block {
 }
 
 /// A script that was read: each program is what some text is, and well-formed. Its numbers are in
-/// their ranges, places and names are those of things of the kind that is wanted there, inner
-/// blocks and members of groups stand behind what holds them, and no limit is broken. The main
-/// text is the last of `texts`.
+/// their ranges, and each place is that of a thing of the sort that is wanted there. Inner blocks
+/// and the members of groups stand behind what holds them, a `break` stands in a loop, names are
+/// apart, and no limit is passed, also on how deep blocks stand. The main text is the last of
+/// `texts`.
 #[derive(Drop)]
 pub struct Program {
     pub decls: Vec<Decl>,

@@ -1,6 +1,6 @@
 use Rattle.std.proofs.Common.{◌≤◌, length, rules, ap, append-nil, ◌∙◌}
 use Rattle.script_tree.specs.Tree.{Tree}
-use Rattle.script_tree.proofs.Levels.{read_at, block_there, block_missing}
+use Rattle.script_tree.proofs.BlockTexts.{read_at, block_there, block_missing}
 use Rattle.script_tree.proofs.showing.+blocks.Goals as goal
 
 pub write_block-returns-in-Some : goal.write_block-returns-in-Some

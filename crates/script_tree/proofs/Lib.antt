@@ -30,8 +30,6 @@ pub mod KnownNames
 pub mod Lasting
 pub mod Leads
 pub mod Levelling
-pub mod Levels
-pub mod Made
 pub mod Mains
 pub mod Moves
 pub mod Moving

@@ -99,8 +99,7 @@ impl World {
     pub fn is_live(&self, fiber: FiberNo) -> bool
         ensures { IsTrue result ↔ IsLive self.now fiber }
     {
-        fiber != 0
-            && matches!(self.fibers.get(fiber as usize - 1), Some(FiberState::Live))
+        fiber != 0 && matches!(self.fibers.get(fiber as usize - 1), Some(FiberState::Live))
     }
 
     /// Whether nothing is left to do.

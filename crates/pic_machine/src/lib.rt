@@ -10,12 +10,20 @@
 #![tactic(auto)]
 
 mod birth;
+mod body;
+mod closed;
 mod entry;
+mod poller;
+mod port;
 mod state;
 mod world;
 
 pub use birth::Birth;
+pub use body::Carried;
+pub use closed::Closed;
 pub use entry::{Call, CompleteReply, Entry, Happened, Reply};
+pub use poller::{Poller, Turn};
+pub use port::{ClaimRefusal, Idle, Port, PortFault, ReadyLine};
 pub use state::{CompState, FiberState};
 pub use world::{Start, World};
 

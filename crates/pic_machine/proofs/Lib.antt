@@ -1,2 +1,5 @@
 pub mod Histories
 pub mod Quiet
+pub mod Steps
+pub mod Standing
+pub mod Fresh

@@ -19,7 +19,7 @@ use Rattle.pic_machine.specs.History.{Origin, Follows, IsLegal, birth_among, bir
 use Rattle.pic_machine.specs.Log.{Others, log}
 use Rattle.pic_machine.proofs.Histories.{world-push, world_from-append}
 use Rattle.pic_machine.proofs.Steps.{fibers_stay}
-use Rattle.pic_machine.proofs.Standing.{birth_among-append, log-others, not_same, owed_stays}
+use Rattle.pic_machine.proofs.Standing.{birth_among-append, log-others, not_same, owed_stays, same_number}
 
 -- fiber g isn't made in the world
 abbrev pub IsFresh : State → ℕ → Type 0
@@ -114,9 +114,6 @@ pub no_birth : (origin : Origin) (hs : List Happened) (g : ℕ) → IsLegal orig
 no_birth origin hs g legal fresh = births_from origin [] hs g legal fresh
 
 -- ---- the child of a fork
-
-same_number : (g : ℕ) → (g == g) ≡ true
-same_number g = grind (arith, nat_tests)
 
 -- the fiber that a fork has just made has the birth that stands beside the fork
 pub birth_made : (origin : Origin) (hs : List Happened) (f g : ℕ) (birth : Birth) → IsLegal origin hs → IsFresh (world origin hs) g → g ≢ 1 → birth_in origin (hs ++ forked f g birth ∷ []) g ≡ Some birth

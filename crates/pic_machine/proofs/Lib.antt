@@ -3,3 +3,5 @@ pub mod Quiet
 pub mod Steps
 pub mod Standing
 pub mod Fresh
+pub mod Onward
+pub mod Turns

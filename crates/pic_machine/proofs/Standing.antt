@@ -50,6 +50,9 @@ pub not_same : (g f : ℕ) (b : Bool) → (g == f) ≡ b → g ≢ f → (g == f
 not_same g f true is other = absurd (other (grind (arith, nat_tests)))
 not_same g f false is other = is
 
+pub same_number : (f : ℕ) → (f == f) ≡ true
+same_number f = grind (arith, nat_tests)
+
 not_logged : (h : Happened) (f : ℕ) → h.entry.fiber ≢ f → is_logged f h ≡ false
 not_logged h f other = rw (not_same h.entry.fiber f (h.entry.fiber == f) refl other) refl
 

@@ -4,4 +4,5 @@ pub mod Steps
 pub mod Standing
 pub mod Fresh
 pub mod Onward
+pub mod Homes
 pub mod Turns

@@ -1,7 +1,7 @@
 -- What one step leaves as it was: how many computations there are, and what other fibers are and owe.
 use Rattle.std.proofs.Common.{◌≡◌, ◌≢◌, ℕ, zero, suc, ◌+◌, ◌-◌, ◌<◌, ◌≤◌, ◌⊎◌, inl, inr, Bool, true, false, List, [], ◌∷◌, ◌++◌, length, slice_index_or, slice_get, slice_set, Option, Some, None, refl, sym, ap, subst, ◌∙◌, arith}
 use Rattle.std.proofs.lemmas.List.{get_or-set_other, length-set, length-append}
-use Rattle.std.proofs.lemmas.Option.{slice_get_within}
+use Rattle.std.proofs.lemmas.Bool.Decides.{nat_tests}
 use Rattle.pic_base.specs.declared.duty.Duty.{Duty}
 use Rattle.pic_base.specs.declared.duty.Duty.TheVariants.{Signal, Follow, Cancel, Return}
 use Rattle.pic_base.specs.declared.outcome.Outcome.{Outcome}
@@ -166,3 +166,49 @@ allowed_after w g other f call theirs apart mine =
       duties = subst (λ (ds : List Duty). DutiesAllow ds call) same mine.duties;
       names = names_after w g other call mine.names;
     }
+
+-- ---- limits
+
+outcome_limits : (w : State) (c : ℕ) (o : Outcome) (s : Option CompState) → (with_outcome w c o s).limits ≡ w.limits
+outcome_limits w c o None = refl
+outcome_limits w c o (Some Running) = refl
+outcome_limits w c o (Some (Done x)) = refl
+
+forked_limits : (w : State) (b : Bool) → has_room w ≡ b → (with_fiber w).limits ≡ w.limits
+forked_limits w true room = rw room refl
+forked_limits w false room = rw room refl
+
+pub limits_after : (w : State) (f : ℕ) (call : Call) → (after w f call).limits ≡ w.limits
+limits_after w f Turn = refl
+limits_after w f Yield = refl
+limits_after w f (Complete c o) = outcome_limits (owing w f (fulfilled (owed_of w f))) c o (slice_get w.comps c)
+limits_after w f (Peek c) = refl
+limits_after w f (Fork text value) = forked_limits w (has_room w) refl
+limits_after w f (Say v) = refl
+limits_after w f (End o) = refl
+
+-- there are at most as many fibers as there may be
+abbrev pub IsWithin : State → Type 0
+IsWithin w = length w.fibers ≤ w.limits.fibers
+
+forked_within : (w : State) (b : Bool) → has_room w ≡ b → IsWithin w → IsWithin (with_fiber w)
+forked_within w true room within =
+    let less : length w.fibers < w.limits.fibers = grind (arith, nat_tests, room) in
+    rw room (omega (arith, less, length-append w.fibers (Live ∷ [])))
+forked_within w false room within = rw room within
+
+pub within_after : (w : State) (f : ℕ) (call : Call) → IsWithin w → IsWithin (after w f call)
+within_after w f Turn within = within
+within_after w f Yield within = within
+within_after w f (Complete c o) within =
+    rw (outcome_fibers (owing w f (fulfilled (owed_of w f))) c o (slice_get w.comps c), outcome_limits (owing w f (fulfilled (owed_of w f))) c o (slice_get w.comps c)) within
+within_after w f (Peek c) within = within
+within_after w f (Fork text value) within = forked_within w (has_room w) refl within
+within_after w f (Say v) within = within
+within_after w f (End o) within = rw (length-set w.fibers (f - 1) (Ended o)) within
+
+-- a fork finds no room exactly where there are as many fibers as there may be
+pub full_at_limit : (w : State) → IsWithin w → has_room w ≡ false → length w.fibers ≡ w.limits.fibers
+full_at_limit w within room =
+    let not_less : w.limits.fibers ≤ length w.fibers = grind (arith, nat_tests, room) in
+    omega (arith, within, not_less)

@@ -104,9 +104,9 @@ births_from origin front (h ∷ back) g legal fresh =
     let follows : Follows origin front h = legal.each front back h refl in
     let there : IsFresh (world origin (front ++ h ∷ [])) g = was_fresh origin (front ++ h ∷ []) back g (subst (λ (zs : List Happened). IsFresh (world origin zs) g) (sym assoc) fresh) in
     let other : (n : ℕ) → h.entry.reply ≡ Made n → n ≢ g = λ n made same.
-        let new = newest (world origin front) h.entry.fiber n h.entry.call (sym made ∙ follows.reply) in
-        let count : length (world origin (front ++ h ∷ [])).fibers ≡ n = ap (λ (w : State). length w.fibers) (world-push origin front h) ∙ new.there in
-        absurd (omega (arith, count, there, same)) in
+    let new = newest (world origin front) h.entry.fiber n h.entry.call (sym made ∙ follows.reply) in
+    let count : length (world origin (front ++ h ∷ [])).fibers ≡ n = ap (λ (w : State). length w.fibers) (world-push origin front h) ∙ new.there in
+    absurd (omega (arith, count, there, same)) in
     rw (no_birth_of h.entry.reply h.birth g other)
     (births_from origin (front ++ h ∷ []) back g (subst (IsLegal origin) (sym assoc) legal) (subst (λ (zs : List Happened). IsFresh (world origin zs) g) (sym assoc) fresh))
 

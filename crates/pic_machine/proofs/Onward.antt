@@ -71,9 +71,9 @@ module _ {S : Type 0} (old new : Sight S) (before now : Carry S) (others : List 
       let made_log : log new.front f ≡ log old.front f ++ h ∷ [] = ap (λ (zs : List Happened). log zs f) on.front ∙ log_made old.front others h f apart' mine within in
       let listed : now.noted ≡ visible (log new.front f) = noted ∙ (ap (λ (es : List Entry). es ++ visible (h ∷ [])) holds.noted ∙ (sym (visible-append (log old.front f) (h ∷ [])) ∙ ap visible (sym made_log))) in
       let born : f ≢ 0 → birth_in new.origin new.front f ≡ Some now.birth = λ fiber.
-          let there : birth_in old.origin ((old.front ++ others) ++ h ∷ []) f ≡ Some before.birth =
-          birth_stays old.origin (old.front ++ others) (h ∷ []) f before.birth (birth_stays old.origin old.front others f before.birth (holds.birth fiber)) in
-          ap (λ (o : Origin). birth_in o new.front f) on.origin ∙ (ap (λ (zs : List Happened). birth_in old.origin zs f) on.front ∙ (there ∙ ap Some (sym birth))) in
+      let there : birth_in old.origin ((old.front ++ others) ++ h ∷ []) f ≡ Some before.birth =
+      birth_stays old.origin (old.front ++ others) (h ∷ []) f before.birth (birth_stays old.origin old.front others f before.birth (holds.birth fiber)) in
+      ap (λ (o : Origin). birth_in o new.front f) on.origin ∙ (ap (λ (zs : List Happened). birth_in old.origin zs f) on.front ∙ (there ∙ ap Some (sym birth))) in
       record {
         made = onward_made old new others h on apart;
         holds = record {
@@ -107,7 +107,7 @@ module _ {S : Type 0} (old new : Sight S) (before now : Carry S) where
       let owed : new.duties now.owes ≡ owed_of (world new.origin new.front) f = owes ∙ (holds.owes ∙ (sym (owed_stays old.origin old.front others f legal apart) ∙ ap (λ (w : State). owed_of w f) worlds)) in
       let acts : MayAct (world new.origin new.front) f = subst (λ (w : State). MayAct w f) worlds (acts_stays old.origin old.front others f legal apart holds.acts) in
       let born : f ≢ 0 → birth_in new.origin new.front f ≡ Some now.birth = λ fiber.
-          ap (λ (o : Origin). birth_in o new.front f) later.origin ∙ (ap (λ (zs : List Happened). birth_in old.origin zs f) later.front ∙ (birth_stays old.origin old.front others f before.birth (holds.birth fiber) ∙ ap Some (sym same.birth))) in
+      ap (λ (o : Origin). birth_in o new.front f) later.origin ∙ (ap (λ (zs : List Happened). birth_in old.origin zs f) later.front ∙ (birth_stays old.origin old.front others f before.birth (holds.birth fiber) ∙ ap Some (sym same.birth))) in
       record {
         kept = kept;
         not_mine = apart;

@@ -51,16 +51,19 @@ pub trait Carried: Drop {
 
     // A body that fits a log has the log's visible entries, and of the clock's body that is all.
     ghost shows: { (body : Self) (log : List Happened) → fits body log → (seen body).noted ≡ visible log };
+
     ghost clock: { (body : Self) (log : List Happened) → (seen body).number ≡ Some 0
         → (seen body).noted ≡ visible log → fits body log };
 
     // Duties and room don't matter to a body's fitting, nor, before the first entry, does the number.
     ghost fits_same: { (old new : Self) (log : List Happened) → fits old log → same_rest old new
         → IsSame (seen old) (seen new) → fits new log };
+
     ghost fits_fresh: { (old new : Self) → fits old [] → (seen old).number ≡ None → same_rest old new
         → (seen new).birth ≡ (seen old).birth → (seen new).noted ≡ (seen old).noted
         → (seen new).share ≡ (seen old).share → fits new [] };
 
     ghost rest_same: { (body : Self) → same_rest body body };
+
     ghost rest_after: { (a b c : Self) → same_rest a b → same_rest b c → same_rest a c };
 }

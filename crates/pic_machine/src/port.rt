@@ -65,6 +65,7 @@ pub trait Port: Drop {
 
     // What this port found says that the fiber wasn't ready, or that a fiber was live or owed.
     ghost missed: { Self → ℕ → Type 0 };
+
     ghost busy: { Self → Type 0 };
 
     /// How often a call was refused since another port was in the way.

@@ -8,3 +8,6 @@ pub type FiberNo = u32;
 
 /// The number of a computation, from 0: the root, then the declared ones in order.
 pub type CompNo = u32;
+
+/// The number of a trigger, from 0.
+pub type TriggerNo = u32;

@@ -1,16 +1,22 @@
 -- How histories grow: by one entry at the end. Every port and runner of the machine stands on these laws.
-use Rattle.std.proofs.Common.{◌≡◌, ℕ, true, false, List, [], ◌∷◌, ◌++◌, refl, ap, subst, ◌∙◌, append-nil}
+use Rattle.std.proofs.Common.{◌≡◌, ℕ, true, false, List, [], ◌∷◌, ◌++◌, refl, ap, subst, ◌∙◌, append_assoc, append-nil, filter, map}
+use Rattle.std.proofs.lemmas.List.{map-append}
 use Rattle.std.proofs.lemmas.List.Elements.{filter-append}
 use Rattle.pic_machine.specs.declared.entry.Happened.{Happened}
 use Rattle.pic_machine.specs.State.{State}
 use Rattle.pic_machine.specs.Step.{after}
 use Rattle.pic_machine.specs.History.{Origin, world_from, world, Follows, IsLegal}
-use Rattle.pic_machine.specs.Log.{is_logged, log}
+use Rattle.pic_machine.specs.Log.{is_logged, is_visible, log, visible}
 
 -- the world after one more entry is the step from the world before it
 pub world_from-push : (w : State) (hs : List Happened) (h : Happened) → world_from w (hs ++ h ∷ []) ≡ after (world_from w hs) h.entry.fiber h.entry.call
 world_from-push w [] h = refl
 world_from-push w (x ∷ hs) h = world_from-push (after w x.entry.fiber x.entry.call) hs h
+
+-- the world after two lists is that of the second from the world after the first
+pub world_from-append : (w : State) (hs more : List Happened) → world_from w (hs ++ more) ≡ world_from (world_from w hs) more
+world_from-append w [] more = refl
+world_from-append w (x ∷ hs) more = world_from-append (after w x.entry.fiber x.entry.call) hs more
 
 pub world-push : (origin : Origin) (hs : List Happened) (h : Happened) → world origin (hs ++ h ∷ []) ≡ after (world origin hs) h.entry.fiber h.entry.call
 world-push origin hs h = world_from-push origin.world hs h
@@ -42,7 +48,20 @@ at_push P (x ∷ hs) last each here (y ∷ front) back h is =
 pub IsLegal-push : (origin : Origin) (hs : List Happened) (h : Happened) → IsLegal origin hs → Follows origin hs h → IsLegal origin (hs ++ h ∷ [])
 IsLegal-push origin hs h legal follows = record { each = at_push (Follows origin) hs h legal.each follows }
 
+-- the front of a legal history is legal
+pub IsLegal-front : (origin : Origin) (hs more : List Happened) → IsLegal origin (hs ++ more) → IsLegal origin hs
+IsLegal-front origin hs more legal = record {
+  each = λ front back h is.
+      legal.each front (back ++ more) h (ap (λ (zs : List Happened). zs ++ more) is ∙ append_assoc front (h ∷ back) more);
+}
+
 -- ---- the log of one fiber
+
+pub log-append : (hs more : List Happened) (f : ℕ) → log (hs ++ more) f ≡ log hs f ++ log more f
+log-append hs more f = filter-append (is_logged f) hs more
+
+pub visible-append : (hs more : List Happened) → visible (hs ++ more) ≡ visible hs ++ visible more
+visible-append hs more = ap (map (λ (h : Happened). h.entry)) (filter-append is_visible hs more) ∙ map-append (λ (h : Happened). h.entry) (filter is_visible hs) (filter is_visible more)
 
 pub log-push : (hs : List Happened) (h : Happened) (f : ℕ) → log (hs ++ h ∷ []) f ≡ log hs f ++ log (h ∷ []) f
 log-push hs h f = filter-append (is_logged f) hs (h ∷ [])

@@ -1,5 +1,6 @@
 -- What one fiber did in a history.
-use Rattle.std.specs.Prelude.{ℕ, Bool, true, false, ◌==◌, ◌&&◌, not, List, map, filter}
+use Rattle.std.specs.Prelude.{◌≢◌, ℕ, Bool, true, false, ◌==◌, ◌&&◌, not, List, map, filter}
+use Rattle.std.specs.List.{AllByRecursion}
 use Rattle.pic_machine.specs.declared.entry.Call.{Call}
 use Rattle.pic_machine.specs.declared.entry.Call.TheVariants.{Turn}
 use Rattle.pic_machine.specs.declared.entry.Entry.{Entry}
@@ -23,3 +24,7 @@ is_visible h = not (is_turn h.entry.call)
 
 abbrev pub visible : List Happened → List Entry
 visible hs = map (λ h. h.entry) (filter is_visible hs)
+
+-- none of the entries is fiber f's
+abbrev pub Others : ℕ → List Happened → Type 0
+Others f hs = AllByRecursion (λ h. h.entry.fiber ≢ f) hs

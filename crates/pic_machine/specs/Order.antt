@@ -1,9 +1,10 @@
 -- The order of turns on one worker, first ready first.
 use Rattle.std.specs.Prelude.{◌≡◌, ℕ, Bool, true, false, List, [], ◌∷◌, ◌++◌}
-use Rattle.std.specs.List.{AllByRecursion}
+use Rattle.std.specs.List.{AllByRecursion, flat_map}
 use Rattle.pic_machine.specs.declared.entry.Call.{Call}
-use Rattle.pic_machine.specs.declared.entry.Call.TheVariants.{Turn, End}
-use Rattle.pic_machine.specs.declared.entry.Reply.TheVariants.{Plain}
+use Rattle.pic_machine.specs.declared.entry.Call.TheVariants.{Turn, Yield, Fork, End}
+use Rattle.pic_machine.specs.declared.entry.Reply.{Reply}
+use Rattle.pic_machine.specs.declared.entry.Reply.TheVariants.{Plain, Made}
 use Rattle.pic_machine.specs.declared.entry.Happened.{Happened}
 use Rattle.pic_machine.specs.History.{event}
 use Rattle.pic_machine.specs.Log.{is_turn}
@@ -14,9 +15,17 @@ pub record IsOwn (f : ℕ) (h : Happened) : Type 0 where
   pub within : is_turn h.entry.call ≡ false
 
 -- the entries that end a turn
-abbrev pub stops : Call → Bool
-stops (End o) = true
-stops _ = false
+abbrev pub stops : Call → Reply → Bool
+stops Yield reply = true
+stops (End o) reply = true
+stops _ _ = false
+
+-- the turn goes on behind the entry, or ends with it
+abbrev pub GoesOn : Happened → Type 0
+GoesOn h = stops h.entry.call h.entry.reply ≡ false
+
+abbrev pub Stops : Happened → Type 0
+Stops h = stops h.entry.call h.entry.reply ≡ true
 
 -- the entries of one turn of fiber f: its own alone, of which the last and only the last ends it
 pub record IsTurn (f : ℕ) (hs : List Happened) : Type 0 where
@@ -24,15 +33,25 @@ pub record IsTurn (f : ℕ) (hs : List Happened) : Type 0 where
   pub final : Happened
   pub is : hs ≡ going ++ final ∷ []
   pub own : AllByRecursion (IsOwn f) hs
-  pub on : AllByRecursion (λ h. stops h.entry.call ≡ false) going
-  pub last : stops final.entry.call ≡ true
+  pub on : AllByRecursion GoesOn going
+  pub last : Stops final
 
--- the history is a list of turns, each of the fiber that was first of the ready list; beside it
--- stands the list as the history leaves it
+-- the fibers that an entry makes ready: one that yields is ready again, and so is one that was made
+abbrev pub readied_by : ℕ → Call → Reply → List ℕ
+readied_by f Yield reply = f ∷ []
+readied_by f (Fork text value) (Made g) = g ∷ []
+readied_by f _ _ = []
+
+-- the fibers that entries make ready, in the order of happening
+abbrev pub readied : List Happened → List ℕ
+readied hs = flat_map (λ h. readied_by h.entry.fiber h.entry.call h.entry.reply) hs
+
+-- the history is a list of turns, each of the fiber that was first of the ready list, and what a turn
+-- makes ready goes to the list's end; beside the history stands the list as it leaves it
 pub data InFifo : List Happened → List ℕ → Type 0 where
   begin : InFifo [] (1 ∷ [])
   turn : {hs : List Happened} {f : ℕ} {ready : List ℕ} (own : List Happened) → InFifo hs (f ∷ ready) → IsTurn f own
-      → InFifo (hs ++ event f Turn Plain ∷ own) ready
+      → InFifo (hs ++ event f Turn Plain ∷ own) (ready ++ readied own)
 
 pub record IsInFifoOrder (hs : List Happened) : Type 0 where
   pub ready : List ℕ

@@ -1,15 +1,17 @@
 -- The step of the machine: which calls a fiber may make, the reply to each, and the world after it.
-use Rattle.std.specs.Prelude.{◌≡◌, ℕ, ◌-◌, ◌<◌, Option, Some, None, length, slice_get, slice_set, ⊤}
+use Rattle.std.specs.Prelude.{◌≡◌, ℕ, ◌+◌, ◌-◌, ◌<◌, nat_lt, if◌then◌else◌, ◌⊎◌, Bool, Option, Some, None, List, [], ◌∷◌, ◌++◌, length, slice_get, slice_set, ⊤}
+use Rattle.pic_base.specs.declared.duty.Duty.{Duty}
 use Rattle.pic_base.specs.declared.outcome.Outcome.{Outcome}
 use Rattle.pic_machine.specs.declared.state.CompState.{CompState}
 use Rattle.pic_machine.specs.declared.state.CompState.TheVariants.{Running, Done}
 use Rattle.pic_machine.specs.declared.state.FiberState.TheVariants.{Live, Ended}
 use Rattle.pic_machine.specs.declared.entry.Call.{Call}
-use Rattle.pic_machine.specs.declared.entry.Call.TheVariants.{Turn, Complete, Peek, Say, End}
+use Rattle.pic_machine.specs.declared.entry.Call.TheVariants.{Turn, Yield, Complete, Peek, Fork, Say, End}
 use Rattle.pic_machine.specs.declared.entry.Reply.{Reply}
-use Rattle.pic_machine.specs.declared.entry.Reply.TheVariants.{Plain, Completed, Peeked}
+use Rattle.pic_machine.specs.declared.entry.Reply.TheVariants.{Plain, Full, Made, Completed, Peeked}
 use Rattle.pic_machine.specs.declared.entry.CompleteReply.TheVariants.{Won, Lost}
-use Rattle.pic_machine.specs.State.{State}
+use Rattle.pic_machine.specs.State.{State, owed_of}
+use Rattle.pic_machine.specs.Duty.{DutiesAllow, ClockMakes, fulfilled, followed}
 
 -- ---- allowed
 
@@ -18,17 +20,21 @@ pub record IsLive (w : State) (f : ℕ) : Type 0 where
   pub made : 0 < f
   pub live : slice_get w.fibers (f - 1) ≡ Some Live
 
+-- the clock is bound by its duties alone, another fiber acts only while it is live
+abbrev pub MayAct : State → ℕ → Type 0
+MayAct w f = (f ≡ 0) ⊎ IsLive w f
+
 -- what the call names stands in the world
 abbrev pub NamesStand : State → Call → Type 0
-NamesStand w Turn = ⊤
 NamesStand w (Complete c o) = c < length w.comps
 NamesStand w (Peek c) = c < length w.comps
-NamesStand w (Say v) = ⊤
-NamesStand w (End o) = ⊤
+NamesStand w _ = ⊤
 
 -- fiber f may make the call
 pub record Allowed (w : State) (f : ℕ) (call : Call) : Type 0 where
-  pub caller : IsLive w f
+  pub caller : MayAct w f
+  pub clock : f ≡ 0 → ClockMakes (owed_of w f) call
+  pub duties : DutiesAllow (owed_of w f) call
   pub names : NamesStand w call
 
 -- ---- the reply
@@ -45,14 +51,25 @@ peeked None = Peeked None
 peeked (Some Running) = Peeked None
 peeked (Some (Done o)) = Peeked (Some o)
 
+-- a further fiber may be made
+abbrev pub has_room : State → Bool
+has_room w = nat_lt (length w.fibers) w.limits.fibers
+
+-- the next number, or that no fiber may be made
+abbrev pub fork_reply : State → Reply
+fork_reply w = if has_room w then Made (length w.fibers + 1) else Full
+
 abbrev pub reply_of : State → ℕ → Call → Reply
-reply_of w f Turn = Plain
 reply_of w f (Complete c o) = completed (slice_get w.comps c)
 reply_of w f (Peek c) = peeked (slice_get w.comps c)
-reply_of w f (Say v) = Plain
-reply_of w f (End o) = Plain
+reply_of w f (Fork text value) = fork_reply w
+reply_of w f _ = Plain
 
 -- ---- the world after
+
+-- fiber f owes this from now on
+abbrev pub owing : State → ℕ → List Duty → State
+owing w f duties = record w { owed = slice_set w.owed f duties }
 
 -- a running computation is completed; a completed one stays as it is
 abbrev pub with_outcome : State → ℕ → Outcome → Option CompState → State
@@ -60,9 +77,13 @@ with_outcome w c o None = w
 with_outcome w c o (Some Running) = record w { comps = slice_set w.comps c (Done o) }
 with_outcome w c o (Some (Done standing)) = w
 
+-- one fiber more, live and owing nothing, where there is room
+abbrev pub with_fiber : State → State
+with_fiber w = if has_room w then record w { fibers = w.fibers ++ Live ∷ []; owed = w.owed ++ [] ∷ [] } else w
+
 abbrev pub after : State → ℕ → Call → State
-after w f Turn = w
-after w f (Complete c o) = with_outcome w c o (slice_get w.comps c)
-after w f (Peek c) = w
-after w f (Say v) = w
+after w f (Complete c o) = with_outcome (owing w f (fulfilled (owed_of w f))) c o (slice_get w.comps c)
+after w f (Peek c) = owing w f (followed (owed_of w f) (slice_get w.comps c))
+after w f (Fork text value) = with_fiber w
 after w f (End o) = record w { fibers = slice_set w.fibers (f - 1) (Ended o) }
+after w f _ = w

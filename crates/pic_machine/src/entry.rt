@@ -1,3 +1,5 @@
+ghost use Rattle.std.specs.Prelude.{◌≡◌};
+
 use crate::birth::Birth;
 use pic_base::{CompNo, FiberNo, Outcome, Value};
 
@@ -6,11 +8,15 @@ use pic_base::{CompNo, FiberNo, Outcome, Value};
 pub enum Call {
     /// Begins a turn of the fiber.
     Turn,
+    /// Ends the turn; the fiber goes on in a later one (Picos: `Fiber.yield`).
+    Yield,
     /// Completes a computation, if nobody has yet (Picos: `Computation.try_return`,
     /// `Computation.try_cancel`).
     Complete { comp: CompNo, outcome: Outcome },
     /// Looks at a computation (Picos: `Computation.peek`).
     Peek(CompNo),
+    /// Makes a fiber, which runs this text and is handed this value (Picos: `Fiber.spawn`).
+    Fork { text: u32, value: Value },
     /// Says a value, for the report.
     Say(Value),
     /// Ends the fiber.
@@ -30,6 +36,10 @@ pub enum CompleteReply {
 #[derive(Clone, Copy, Debug, PartialEq, Eq)]
 pub enum Reply {
     Plain,
+    /// No further thing of the kind may be made.
+    Full,
+    /// The number of the thing that was made.
+    Made(u32),
     Completed(CompleteReply),
     /// The outcome of the computation that was peeked at, none where it is running.
     Peeked(Option<Outcome>),
@@ -49,4 +59,36 @@ pub struct Entry {
 pub struct Happened {
     pub entry: Entry,
     pub birth: Option<Birth>,
+}
+
+impl Happened {
+    ghost use Rattle.pic_machine.specs.History.{event, forked};
+
+    /// An entry that made no fiber.
+    pub fn event(fiber: FiberNo, call: Call, reply: Reply) -> Happened
+        ensures { result ≡ event fiber call reply }
+    {
+        Happened {
+            entry: Entry { fiber, call, reply },
+            birth: None,
+        }
+    }
+
+    /// The entry by which the fiber made another one, with this number and birth.
+    pub fn forked(fiber: FiberNo, number: FiberNo, birth: Birth) -> Happened
+        ensures { result ≡ forked fiber number birth }
+    {
+        let call = Call::Fork {
+            text: birth.text,
+            value: birth.value,
+        };
+        Happened {
+            entry: Entry {
+                fiber,
+                call,
+                reply: Reply::Made(number),
+            },
+            birth: Some(birth),
+        }
+    }
 }

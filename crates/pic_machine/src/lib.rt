@@ -1,21 +1,40 @@
-//! The Picos machine: worlds, the entries that fibers make in them, and the histories of entries
-//! that are legal.
+//! The Picos machine: worlds, the entries that fibers make in them, the histories of entries that are
+//! legal, and the contract of ports, by which everything above makes entries.
 //!
 //! `specs/` defines the machine, over lists and whole numbers, by cases on the call: `State`
-//! (a world), `Step` (which calls are allowed, their replies and what they change), `History`
-//! (legal histories), `Log` (what one fiber did), `Final` (nothing is left to do) and `Order` (the
-//! turns of the FIFO order). It stands on `pic_base`. The layers above use `World`, whose calls are
-//! exactly the definition's start and step, and the laws of `proofs/Histories.antt` on how a legal
-//! history grows by one entry.
+//! (a world), `Duty` (what fibers owe), `Step` (which calls are allowed, their replies and what they
+//! change), `History` (legal histories and births), `Log` (what one fiber did), `Final` (nothing is
+//! left to do) and `Order` (the turns of the FIFO order). `World` is the machine itself: its calls are
+//! exactly the definition's start and step.
+//!
+//! A fiber's body (`Carried`) is moved between a port (`Port`), which has the bodies and makes their
+//! entries in one history, and whoever runs it, a turn at a time (`Poller`). `Sight` defines what
+//! contracts see of bodies and ports, `Lending` what a call did to them, `Turning` what a turn did, and
+//! `Home` what stands of a body that its port keeps. A port on one thread, one under a lock and one
+//! without locks meet the same contract, so what stands on a port is proved once for all of them.
+//!
+//! The laws of `proofs/` are for those who write ports and what runs on them: how a legal history
+//! grows (`Histories`), what a step and what other fibers leave standing (`Steps`, `Standing`), that
+//! there is nothing of a fiber that isn't made (`Fresh`), that nobody owes anything yet (`Quiet`), how a
+//! port's call keeps the contract (`Onward`, `Homes`), and how turns are put together and stand in
+//! order (`Turns`). It stands on `pic_base`.
 #![tactic(auto)]
 
 mod birth;
+mod body;
+mod closed;
 mod entry;
+mod poller;
+mod port;
 mod state;
 mod world;
 
 pub use birth::Birth;
+pub use body::Carried;
+pub use closed::Closed;
 pub use entry::{Call, CompleteReply, Entry, Happened, Reply};
+pub use poller::{Poller, Turn};
+pub use port::{ClaimRefusal, Idle, Port, PortFault, ReadyLine};
 pub use state::{CompState, FiberState};
 pub use world::{Start, World};
 

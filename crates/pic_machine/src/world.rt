@@ -1,6 +1,8 @@
-ghost use Rattle.std.specs.Prelude.{◌≡◌, ◌<◌, length, replicate, slice_get, IfOk, OnOk, OnErr};
-ghost use Rattle.pic_machine.specs.State.{CanStart, world_at};
-ghost use Rattle.pic_machine.specs.Step.{Allowed, after, completed, peeked, reply_of, with_outcome};
+ghost use Rattle.std.specs.Prelude.{◌≡◌, ◌<◌, ◌↔◌, ℕ, length, replicate, slice_get, IsTrue, IfOk, OnOk, OnErr};
+ghost use Rattle.pic_machine.specs.State.{CanStart, owed_of, world_at};
+ghost use Rattle.pic_machine.specs.Duty.{followed, fulfilled};
+ghost use Rattle.pic_machine.specs.Step.{Allowed, IsLive, after, completed, fork_reply, owing, peeked, reply_of, with_fiber, with_outcome};
+ghost use Rattle.pic_machine.specs.Final.{IsFinal};
 
 use crate::entry::{Call, CompleteReply, Reply};
 use crate::state::{CompState, FiberState};
@@ -17,7 +19,8 @@ pub struct Start {
     pub limits: Limits,
 }
 
-/// The world of the machine. Contracts see it as the `State` of `specs/State.antt`.
+/// The world of the machine. Contracts see it as the `State` of `specs/State.antt`, in which no fiber
+/// owes anything: no call makes a duty yet.
 #[derive(Drop)]
 pub struct World {
     comps: Vec<CompState>,
@@ -26,6 +29,7 @@ pub struct World {
 }
 
 impl Model for World {
+    ghost use Rattle.std.specs.Prelude.{◌+◌, length, replicate, []};
     ghost use Rattle.pic_machine.specs.State.{State};
 
     ghost Value = { State };
@@ -33,6 +37,7 @@ impl Model for World {
     ghost view = { λ world. record {
       comps = world.comps.items;
       fibers = world.fibers.items;
+      owed = replicate (length world.fibers.items + 1) [];
       limits = world.limits;
     } };
 }
@@ -62,11 +67,13 @@ impl World {
     {
         match call {
             Call::Turn => Ok(Reply::Plain),
+            Call::Yield => Ok(Reply::Plain),
             Call::Say(_) => Ok(Reply::Plain),
             Call::Complete { comp, outcome } => {
                 Ok(Reply::Completed(self.complete(comp, outcome)))
             }
             Call::Peek(comp) => Ok(Reply::Peeked(self.peek(comp))),
+            Call::Fork { .. } => self.fork(),
             Call::End(outcome) => {
                 self.fibers[fiber as usize - 1] = FiberState::Ended(outcome);
                 Ok(Reply::Plain)
@@ -87,6 +94,22 @@ impl World {
     {
         self.fibers.as_slice()
     }
+
+    /// Whether the fiber is live.
+    pub fn is_live(&self, fiber: FiberNo) -> bool
+        ensures { IsTrue result ↔ IsLive self.now fiber }
+    {
+        fiber != 0 && matches!(self.fibers.get(fiber as usize - 1), Some(FiberState::Live))
+    }
+
+    /// Whether nothing is left to do.
+    pub fn is_final(&self) -> bool
+        ensures { IsTrue result ↔ IsFinal self.now }
+    {
+        self.fibers
+            .iter()
+            .all(|fiber| !matches!(fiber, FiberState::Live))
+    }
 }
 
 impl World {
@@ -94,6 +117,7 @@ impl World {
         requires { comp < length self.old.comps }
         ensures reply { Reply.Completed result ≡ completed (slice_get self.old.comps comp) }
         ensures after { self.new ≡ with_outcome self.old comp outcome (slice_get self.old.comps comp) }
+        ensures quiet { (f : ℕ) → owing self.old f (fulfilled (owed_of self.old f)) ≡ self.old }
     {
         let state = self.comps[comp as usize];
         match state {
@@ -107,13 +131,27 @@ impl World {
 
     fn peek(&self, comp: CompNo) -> Option<Outcome>
         requires { comp < length self.now.comps }
-        ensures { Reply.Peeked result ≡ peeked (slice_get self.now.comps comp) }
+        ensures reply { Reply.Peeked result ≡ peeked (slice_get self.now.comps comp) }
+        ensures quiet { (f : ℕ) → owing self.now f (followed (owed_of self.now f) (slice_get self.now.comps comp)) ≡ self.now }
     {
         let state = self.comps[comp as usize];
         match state {
             CompState::Running => None,
             CompState::Done(outcome) => Some(outcome),
         }
+    }
+
+    fn fork(&mut self) -> Result<Reply, Memory>
+        ensures reply { IfOk result (λ reply. reply ≡ fork_reply self.old) }
+        ensures after { OnOk result (self.new ≡ with_fiber self.old) }
+        ensures err { OnErr result (self.new ≡ self.old) }
+    {
+        let count = self.fibers.len();
+        if count >= self.limits.fibers as usize {
+            return Ok(Reply::Full);
+        }
+        self.fibers.push(FiberState::Live)?;
+        Ok(Reply::Made(count as u32 + 1))
     }
 }
 

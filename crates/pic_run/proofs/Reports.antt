@@ -24,6 +24,8 @@ says_step h hs f true call.Turn p q = rw (p, q) refl
 says_step h hs f true (call.Complete comp o) p q = rw (p, q) refl
 says_step h hs f true (call.Peek comp) p q = rw (p, q) refl
 says_step h hs f true (call.Say v) p q = rw (p, q) refl
+says_step h hs f true call.Yield p q = rw (p, q) refl
+says_step h hs f true (call.Fork text value) p q = rw (p, q) refl
 says_step h hs f true (call.End o) p q = rw (p, q) refl
 
 pub says_on : (lines all : List (List ℕ)) (hs : List Happened) (i f : ℕ) (h : Happened) → i < length hs → h ≡ get_or hs i h

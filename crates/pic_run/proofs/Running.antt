@@ -1,6 +1,7 @@
 -- One entry of main after another: what each statement adds to the history.
-use Rattle.std.proofs.Common.{◌≡◌, ℕ, ◌<◌, ◌^◌, false, [], ◌∷◌, ◌++◌, length, Option, Some, None, slice_get, refl, sym, ap, subst, ◌∙◌, arith, append-nil}
+use Rattle.std.proofs.Common.{◌≡◌, ℕ, ◌<◌, ◌^◌, false, inr, List, [], ◌∷◌, ◌++◌, length, Option, Some, None, slice_get, refl, sym, ap, subst, ◌∙◌, arith, append-nil}
 use Rattle.std.proofs.lemmas.List.{length-set}
+use Rattle.pic_base.specs.declared.duty.Duty.{Duty}
 use Rattle.pic_base.specs.declared.outcome.Outcome.{Outcome}
 use Rattle.pic_base.specs.declared.outcome.Outcome.TheVariants.{Returned, Cancelled}
 use Rattle.pic_machine.specs.declared.entry.Call.{Call}
@@ -12,19 +13,21 @@ use Rattle.pic_machine.specs.declared.entry.Reply.TheVariants.{Plain, Completed,
 use Rattle.pic_machine.specs.declared.entry.Happened.{Happened}
 use Rattle.pic_machine.specs.declared.state.CompState.{CompState}
 use Rattle.pic_machine.specs.declared.state.CompState.TheVariants.{Running, Done}
-use Rattle.pic_machine.specs.State.{State}
-use Rattle.pic_machine.specs.Step.{Allowed, after, reply_of, completed, peeked, with_outcome}
-use Rattle.pic_machine.specs.History.{event, origin_of}
+use Rattle.pic_machine.specs.State.{State, owed_of}
+use Rattle.pic_machine.specs.Step.{Allowed, IsLive, NamesStand, after, reply_of, completed, owing, peeked, with_outcome}
+use Rattle.pic_machine.specs.Duty.{ClockMakes, DutiesAllow, fulfilled, followed}
+use Rattle.pic_machine.specs.History.{BirthFits, event, origin_of}
 use Rattle.pic_machine.specs.Log.{is_turn}
 use Rattle.pic_machine.specs.Order.{stops}
 use Rattle.pic_machine.proofs.Histories.{IsLegal-push, world-push}
+use Rattle.pic_machine.proofs.Quiet.{IsQuiet-owed, IsQuiet-start, IsQuiet-world}
 use Rattle.script_tree.specs.declared.program.Operand.{Operand}
 use Rattle.script_tree.specs.declared.program.CompRef.{CompRef}
 use Rattle.script_tree.specs.declared.program.CompRef.TheVariants.{Root, Named, Promise}
 use Rattle.script_tree.specs.declared.program.Stmt.{Stmt}
 use Rattle.script_tree.specs.declared.program.Stmt.TheVariants.{Set, Say, Return, Cancel, Peek}
 use Rattle.pic_run.specs.Meaning.{Context, Does, set_next, say_next, return_next, cancel_next, peek_next, next, comp_number, value_of, with_register, state_number, outcome_number}
-use Rattle.pic_run.specs.Past.{Past, world_of, IsKept, IsOneOf, Adds, Completes, Did, won_of, seen_of}
+use Rattle.pic_run.specs.Past.{Past, world_of, IsKept, MakesNoFiber, IsOneOf, Adds, Completes, Did, won_of, seen_of}
 
 pub pair : {A B : Type 0} {a a' : A} {b b' : B} → a ≡ a' → b ≡ b' → ◌≡◌ {A = A × B} (a, b) (a', b')
 pair p q = λ i. (p i, q i)
@@ -35,12 +38,38 @@ longer past h = record past { history = past.history ++ h ∷ [] }
 
 -- ---- the machine goes on
 
-pub kept-push : (past : Past) (w now : State) (f : ℕ) (c : Call) (reply : Reply) → IsKept past w → Allowed w f c → reply ≡ reply_of w f c → now ≡ after w f c → IsKept (longer past (event f c reply)) now
-kept-push past w now f c reply kept allowed answers step = record {
+-- nobody owes anything, so a live fiber may make each call whose names stand
+may : (past : Past) (f : ℕ) (c : Call) → IsLive (world_of past) f → NamesStand (world_of past) c → Allowed (world_of past) f c
+may past f c live names =
+    let none : owed_of (world_of past) f ≡ [] = IsQuiet-owed (world_of past) f (IsQuiet-world (origin_of past.start) past.history (IsQuiet-start past.start)) in
+    record {
+      caller = inr live;
+      clock = λ zero_is. absurd (omega (arith, live.made, zero_is));
+      duties = subst (λ (ds : List Duty). DutiesAllow ds c) (sym none) tt;
+      names = names;
+    }
+
+-- the same of the world that the runner keeps
+pub kept_may : (past now : Past) (w : State) (f : ℕ) (c : Call) → past ≡ now → IsKept past w → IsLive (world_of now) f → NamesStand (world_of now) c → Allowed w f c
+kept_may past now w f c is kept live names =
+    subst (λ (v : State). Allowed v f c) (ap world_of (sym is) ∙ sym kept.now) (may now f c live names)
+
+-- beside a call that makes no fiber stands no birth
+no_birth : (w : State) (c : Call) (reply : Reply) → MakesNoFiber c → BirthFits w c reply None
+no_birth w call.Turn reply none = refl
+no_birth w call.Yield reply none = refl
+no_birth w (call.Complete k o) reply none = refl
+no_birth w (call.Peek k) reply none = refl
+no_birth w (call.Fork text value) reply none = absurd none
+no_birth w (call.Say v) reply none = refl
+no_birth w (call.End o) reply none = refl
+
+pub kept-push : (past : Past) (w now : State) (f : ℕ) (c : Call) (reply : Reply) → IsKept past w → Allowed w f c → MakesNoFiber c → reply ≡ reply_of w f c → now ≡ after w f c → IsKept (longer past (event f c reply)) now
+kept-push past w now f c reply kept allowed none answers step = record {
   legal = IsLegal-push (origin_of past.start) past.history (event f c reply) kept.legal (record {
-    allowed = subst (λ (v : State). Allowed v f c) kept.now allowed;
+    may = record { allowed = subst (λ (v : State). Allowed v f c) kept.now allowed };
     reply = answers ∙ ap (λ (v : State). reply_of v f c) kept.now;
-    birth = refl;
+    birth = no_birth (world_of past) c reply none;
   });
   now = step ∙ (ap (λ (v : State). after v f c) kept.now ∙ sym (world-push (origin_of past.start) past.history (event f c reply)));
 }
@@ -104,13 +133,13 @@ completes old new before now register comp k outcome reply number answers is tol
       reply = shape.0;
       number = k;
       is = number;
-      adds = adds old new 1 (call.Complete k outcome) (Completed shape.0) here (outcome_fibers w k outcome (slice_get w.comps k)) (outcome_comps w k outcome (slice_get w.comps k));
+      adds = adds old new 1 (call.Complete k outcome) (Completed shape.0) here (outcome_fibers (owing w 1 (fulfilled (owed_of w 1))) k outcome (slice_get w.comps k)) (outcome_comps (owing w 1 (fulfilled (owed_of w 1))) k outcome (slice_get w.comps k));
       told = told ∙ ap (λ (r : Reply). with_register before register (won_of r)) reply_is;
     }
 
 -- a statement of one entry, which ends no turn
 did_one : (old new : Past) (s : Stmt) (before now : Context) (c : Call) (reply : Reply) → Adds old new (event 1 c reply) → Does 1 s before (event 1 c reply ∷ []) next now
-    → is_turn c ≡ false → stops c ≡ false → Did old new s before now
+    → is_turn c ≡ false → stops c reply ≡ false → Did old new s before now
 did_one old new s before now c reply adds does within on = record {
   start = ap (λ (p : Past). p.start) adds.grown;
   made = event 1 c reply ∷ [];
@@ -118,6 +147,7 @@ did_one old new s before now c reply adds does within on = record {
   does = does;
   own = (record { by = refl; within = within }, tt);
   on = (on, tt);
+  none = (refl, tt);
   fibers = adds.fibers;
   comps = adds.comps;
 }
@@ -130,6 +160,7 @@ did_set old r v before now value is after = record {
   does = subst (λ (d : Context). Does 1 (Set r v) before [] next d) (sym (after ∙ ap (λ (n : ℕ). with_register before r n) is)) set_next;
   own = tt;
   on = tt;
+  none = tt;
   fibers = refl;
   comps = refl;
 }

@@ -1,8 +1,9 @@
 -- What the runner keeps: the history so far and the start that it goes on from; and what one statement
 -- adds to it. Only the runner's own contracts cite them.
-use Rattle.std.specs.Prelude.{◌≡◌, ℕ, ◌^◌, ◌<◌, false, Option, Some, None, MatchOption, List, [], ◌∷◌, ◌++◌, length}
+use Rattle.std.specs.Prelude.{◌≡◌, ℕ, ◌^◌, ◌<◌, ⊤, Option, Some, None, MatchOption, List, [], ◌∷◌, ◌++◌, length}
 use Rattle.std.specs.List.{AllByRecursion}
 use Rattle.pic_base.specs.declared.outcome.Outcome.{Outcome}
+use Rattle.pic_machine.specs.declared.entry.Call.{Call}
 use Rattle.pic_machine.specs.declared.entry.Call.TheVariants as call
 use Rattle.pic_machine.specs.declared.entry.CompleteReply.{CompleteReply}
 use Rattle.pic_machine.specs.declared.entry.Reply.{Reply}
@@ -12,7 +13,7 @@ use Rattle.pic_machine.specs.declared.state.FiberState.TheVariants.{Live}
 use Rattle.pic_machine.specs.declared.world.Start.{Start}
 use Rattle.pic_machine.specs.State.{State}
 use Rattle.pic_machine.specs.History.{event, origin_of, IsLegal, world}
-use Rattle.pic_machine.specs.Order.{IsOwn, stops}
+use Rattle.pic_machine.specs.Order.{IsOwn, GoesOn}
 use Rattle.script_tree.specs.declared.program.Stmt.{Stmt}
 use Rattle.script_tree.specs.declared.program.CompRef.{CompRef}
 use Rattle.script_tree.specs.declared.program.Stmt.TheVariants.{Set, Say, Return, Cancel, Peek}
@@ -35,6 +36,11 @@ pub record IsKept (past : Past) (machine : State) : Type 0 where
 pub record MainRuns (w : State) : Type 0 where
   pub fibers : w.fibers ≡ Live ∷ []
   pub few : length w.comps < 2 ^ 32
+
+-- the calls that make no fiber: a run serves no others yet
+abbrev pub MakesNoFiber : Call → Type 0
+MakesNoFiber (call.Fork text value) = ⊥
+MakesNoFiber _ = ⊤
 
 -- the computation has a number, and is one of so many
 abbrev pub IsOneOf : ℕ → CompRef → Type 0
@@ -80,6 +86,7 @@ pub record Did (old new : Past) (stmt : Stmt) (before after : Context) : Type 0 
   pub grown : new.history ≡ old.history ++ made
   pub does : Does 1 stmt before made next after
   pub own : AllByRecursion (IsOwn 1) made
-  pub on : AllByRecursion (λ h. stops h.entry.call ≡ false) made
+  pub on : AllByRecursion GoesOn made
+  pub none : AllByRecursion (λ h. h.birth ≡ None) made
   pub fibers : (world_of new).fibers ≡ (world_of old).fibers
   pub comps : length (world_of new).comps ≡ length (world_of old).comps

@@ -1,12 +1,12 @@
 //! Runs a program's main fiber on the machine, and keeps the history.
 ghost use Rattle.std.specs.Prelude.{◌≡◌, ◌++◌, ◌∷◌, [], IfOk, OnErr, OnOk};
 ghost use Rattle.pic_machine.specs.State.{CanStart};
-ghost use Rattle.pic_machine.specs.Step.{Allowed, reply_of};
+ghost use Rattle.pic_machine.specs.Step.{IsLive, NamesStand, reply_of};
 ghost use Rattle.pic_machine.specs.History.{IsLegal, event, origin_of};
-ghost use Rattle.pic_run.specs.Past.{world_of};
+ghost use Rattle.pic_run.specs.Past.{MakesNoFiber, world_of};
 
 use pic_base::{FiberNo, Memory};
-use pic_machine::{Call, CompState, Entry, FiberState, Happened, Reply, Start, World};
+use pic_machine::{Call, CompState, FiberState, Happened, Reply, Start, World};
 use std::alloc::Global;
 use std::marker::Model;
 
@@ -45,7 +45,9 @@ impl Runner {
 
     /// Makes one call of a fiber, and keeps its entry.
     pub(crate) fn make(&mut self, fiber: FiberNo, call: Call) -> Result<Reply, Memory>
-        requires { Allowed (world_of self.old) fiber call }
+        requires live { IsLive (world_of self.old) fiber }
+        requires names { NamesStand (world_of self.old) call }
+        requires none { MakesNoFiber call }
         ensures reply { IfOk result (λ reply. reply ≡ reply_of (world_of self.old) fiber call) }
         ensures made { IfOk result (λ reply. self.new
             ≡ record self.old { history = self.old.history ++ event fiber call reply ∷ [] }) }
@@ -55,10 +57,8 @@ impl Runner {
         // Room first, so that an entry is kept wherever its call was made.
         self.history.reserve(1)?;
         let reply = self.machine.apply(fiber, call)?;
-        self.history.push_reserved(Happened {
-            entry: Entry { fiber, call, reply },
-            birth: None,
-        });
+        self.history
+            .push_reserved(Happened::event(fiber, call, reply));
         Ok(reply)
     }
 

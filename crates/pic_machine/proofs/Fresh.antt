@@ -1,0 +1,123 @@
+-- Of a fiber that isn't made yet there is nothing: no entry, no duty and no birth. So the body of a child
+-- fits its fiber's log as soon as a fork has made it.
+use Rattle.std.proofs.Common.{◌≡◌, ◌≢◌, ℕ, zero, suc, ◌+◌, ◌-◌, ◌<◌, ◌≤◌, ◌==◌, cond, inl, inr, Bool, true, false, Option, Some, None, List, [], ◌∷◌, ◌++◌, length, refl, sym, ap, subst, ◌∙◌, append_assoc, arith}
+use Rattle.std.proofs.lemmas.List.{length-append}
+use Rattle.std.proofs.lemmas.Option.{slice_get_within}
+use Rattle.std.proofs.lemmas.Bool.Decides.{nat_tests}
+use Rattle.pic_machine.specs.declared.birth.Birth.{Birth}
+use Rattle.pic_machine.specs.declared.state.CompState.{CompState}
+use Rattle.pic_machine.specs.declared.state.CompState.TheVariants.{Running, Done}
+use Rattle.pic_machine.specs.declared.state.FiberState.TheVariants.{Live}
+use Rattle.pic_machine.specs.declared.entry.Call.{Call}
+use Rattle.pic_machine.specs.declared.entry.Call.TheVariants.{Turn, Yield, Complete, Peek, Fork, Say, End}
+use Rattle.pic_machine.specs.declared.entry.Reply.{Reply}
+use Rattle.pic_machine.specs.declared.entry.Reply.TheVariants.{Plain, Full, Made, Completed, Peeked}
+use Rattle.pic_machine.specs.declared.entry.Happened.{Happened}
+use Rattle.pic_machine.specs.State.{State, owed_of}
+use Rattle.pic_machine.specs.Step.{MayAct, IsLive, after, completed, fork_reply, has_room, peeked, reply_of, with_fiber}
+use Rattle.pic_machine.specs.History.{Origin, Follows, IsLegal, birth_among, birth_at, birth_in, forked, made_birth, or_later, world, world_from}
+use Rattle.pic_machine.specs.Log.{Others, log}
+use Rattle.pic_machine.proofs.Histories.{world-push, world_from-append}
+use Rattle.pic_machine.proofs.Steps.{fibers_stay}
+use Rattle.pic_machine.proofs.Standing.{birth_among-append, log-others, not_same, owed_stays, same_number}
+
+-- fiber g isn't made in the world
+abbrev pub IsFresh : State → ℕ → Type 0
+IsFresh w g = length w.fibers < g
+
+fibers_grow : (w : State) (hs : List Happened) → length w.fibers ≤ length (world_from w hs).fibers
+fibers_grow w [] = omega arith
+fibers_grow w (h ∷ hs) = omega (arith, fibers_stay w h.entry.fiber h.entry.call, fibers_grow (after w h.entry.fiber h.entry.call) hs)
+
+-- a fiber that isn't made now wasn't before
+was_fresh : (origin : Origin) (hs more : List Happened) (g : ℕ) → IsFresh (world origin (hs ++ more)) g → IsFresh (world origin hs) g
+was_fresh origin hs more g fresh =
+    let same : length (world origin (hs ++ more)).fibers ≡ length (world_from (world origin hs) more).fibers = ap (λ (w : State). length w.fibers) (world_from-append origin.world hs more) in
+    omega (arith, same, fresh, fibers_grow (world origin hs) more)
+
+acts_made : (w : State) (f g : ℕ) → MayAct w f → IsFresh w g → f ≢ g
+acts_made w f g (inl clock) fresh = λ same. absurd (omega (arith, clock, same, fresh))
+acts_made w f g (inr live) fresh = let within = slice_get_within w.fibers (f - 1) Live live.live in λ same. absurd (omega (arith, within, same, fresh, live.made))
+
+others_from : (origin : Origin) (front back : List Happened) (g : ℕ) → IsLegal origin (front ++ back) → IsFresh (world origin (front ++ back)) g → Others g back
+others_from origin front [] g legal fresh = tt
+others_from origin front (h ∷ back) g legal fresh =
+    let assoc : (front ++ h ∷ []) ++ back ≡ front ++ h ∷ back = append_assoc front (h ∷ []) back in (
+      acts_made (world origin front) h.entry.fiber g (legal.each front back h refl).may.allowed.caller (was_fresh origin front (h ∷ back) g fresh),
+      others_from origin (front ++ h ∷ []) back g (subst (IsLegal origin) (sym assoc) legal) (subst (λ (zs : List Happened). IsFresh (world origin zs) g) (sym assoc) fresh),
+    )
+
+pub no_entry : (origin : Origin) (hs : List Happened) (g : ℕ) → IsLegal origin hs → IsFresh (world origin hs) g → Others g hs
+no_entry origin hs g legal fresh = others_from origin [] hs g legal fresh
+
+pub no_log : (origin : Origin) (hs : List Happened) (g : ℕ) → IsLegal origin hs → IsFresh (world origin hs) g → log hs g ≡ []
+no_log origin hs g legal fresh = log-others hs g (no_entry origin hs g legal fresh)
+
+pub no_duty : (origin : Origin) (hs : List Happened) (g : ℕ) → IsLegal origin hs → IsFresh (world origin hs) g → owed_of origin.world g ≡ [] → owed_of (world origin hs) g ≡ []
+no_duty origin hs g legal fresh none = owed_stays origin [] hs g legal (no_entry origin hs g legal fresh) ∙ none
+
+-- ---- births
+
+-- a reply that something was made is that of a fork, and names the newest fiber
+record IsNewest (w : State) (f : ℕ) (call : Call) (n : ℕ) : Type 0 where
+  number : n ≡ length w.fibers + 1
+  there : length (after w f call).fibers ≡ n
+
+forked_newest : (w : State) (f text value n : ℕ) (b : Bool) → has_room w ≡ b → Made n ≡ fork_reply w → IsNewest w f (Fork text value) n
+forked_newest w f text value n true room is =
+    let made : Made n ≡ Made (length w.fibers + 1) = is ∙ (rw room refl) in
+    let number : n ≡ length w.fibers + 1 = cc in
+    record { number = number; there = rw room (length-append w.fibers (Live ∷ []) ∙ sym number) }
+forked_newest w f text value n false room is = let full : Made n ≡ Full = is ∙ (rw room refl) in absurd cc
+
+no_completed : (s : Option CompState) (n : ℕ) → Made n ≡ completed s → ⊥
+no_completed None n is = cc
+no_completed (Some Running) n is = cc
+no_completed (Some (Done o)) n is = cc
+
+no_peeked : (s : Option CompState) (n : ℕ) → Made n ≡ peeked s → ⊥
+no_peeked None n is = cc
+no_peeked (Some Running) n is = cc
+no_peeked (Some (Done o)) n is = cc
+
+newest : (w : State) (f n : ℕ) (call : Call) → Made n ≡ reply_of w f call → IsNewest w f call n
+newest w f n Turn is = absurd cc
+newest w f n Yield is = absurd cc
+newest w f n (Complete c o) is = absurd (no_completed (_) n is)
+newest w f n (Peek c) is = absurd (no_peeked (_) n is)
+newest w f n (Fork text value) is = forked_newest w f text value n (has_room w) refl is
+newest w f n (Say v) is = absurd cc
+newest w f n (End o) is = absurd cc
+
+no_birth_of : (reply : Reply) (birth : Option Birth) (g : ℕ) → ((n : ℕ) → reply ≡ Made n → n ≢ g) → made_birth reply birth g ≡ None
+no_birth_of Plain birth g other = refl
+no_birth_of Full birth g other = refl
+no_birth_of (Made n) None g other = refl
+no_birth_of (Made n) (Some birth) g other = rw (not_same n g (n == g) refl (other n refl)) refl
+no_birth_of (Completed how) birth g other = refl
+no_birth_of (Peeked seen) birth g other = refl
+
+births_from : (origin : Origin) (front back : List Happened) (g : ℕ) → IsLegal origin (front ++ back) → IsFresh (world origin (front ++ back)) g → birth_among back g ≡ None
+births_from origin front [] g legal fresh = refl
+births_from origin front (h ∷ back) g legal fresh =
+    let assoc : (front ++ h ∷ []) ++ back ≡ front ++ h ∷ back = append_assoc front (h ∷ []) back in
+    let follows : Follows origin front h = legal.each front back h refl in
+    let there : IsFresh (world origin (front ++ h ∷ [])) g = was_fresh origin (front ++ h ∷ []) back g (subst (λ (zs : List Happened). IsFresh (world origin zs) g) (sym assoc) fresh) in
+    let other : (n : ℕ) → h.entry.reply ≡ Made n → n ≢ g = λ n made same.
+    let new = newest (world origin front) h.entry.fiber n h.entry.call (sym made ∙ follows.reply) in
+    let count : length (world origin (front ++ h ∷ [])).fibers ≡ n = ap (λ (w : State). length w.fibers) (world-push origin front h) ∙ new.there in
+    absurd (omega (arith, count, there, same)) in
+    rw (no_birth_of h.entry.reply h.birth g other)
+    (births_from origin (front ++ h ∷ []) back g (subst (IsLegal origin) (sym assoc) legal) (subst (λ (zs : List Happened). IsFresh (world origin zs) g) (sym assoc) fresh))
+
+pub no_birth : (origin : Origin) (hs : List Happened) (g : ℕ) → IsLegal origin hs → IsFresh (world origin hs) g → birth_among hs g ≡ None
+no_birth origin hs g legal fresh = births_from origin [] hs g legal fresh
+
+-- ---- the child of a fork
+
+-- the fiber that a fork has just made has the birth that stands beside the fork
+pub birth_made : (origin : Origin) (hs : List Happened) (f g : ℕ) (birth : Birth) → IsLegal origin hs → IsFresh (world origin hs) g → g ≢ 1 → birth_in origin (hs ++ forked f g birth ∷ []) g ≡ Some birth
+birth_made origin hs f g birth legal fresh not_main =
+    rw (not_same g 1 (g == 1) refl not_main)
+    (birth_among-append hs (forked f g birth ∷ []) g
+    ∙ (ap (λ (o : Option Birth). or_later o (birth_among (forked f g birth ∷ []) g)) (no_birth origin hs g legal fresh) ∙ (rw (same_number g) refl)))

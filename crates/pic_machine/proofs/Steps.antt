@@ -1,0 +1,214 @@
+-- What one step leaves as it was: how many computations there are, and what other fibers are and owe.
+use Rattle.std.proofs.Common.{◌≡◌, ◌≢◌, ℕ, zero, suc, ◌+◌, ◌-◌, ◌<◌, ◌≤◌, ◌⊎◌, inl, inr, Bool, true, false, List, [], ◌∷◌, ◌++◌, length, slice_index_or, slice_get, slice_set, Option, Some, None, refl, sym, ap, subst, ◌∙◌, arith}
+use Rattle.std.proofs.lemmas.List.{get_or-set_other, length-set, length-append}
+use Rattle.std.proofs.lemmas.Bool.Decides.{nat_tests}
+use Rattle.pic_base.specs.declared.duty.Duty.{Duty}
+use Rattle.pic_base.specs.declared.duty.Duty.TheVariants.{Signal, Follow, Cancel, Return}
+use Rattle.pic_base.specs.declared.outcome.Outcome.{Outcome}
+use Rattle.pic_machine.specs.declared.state.CompState.{CompState}
+use Rattle.pic_machine.specs.declared.state.CompState.TheVariants.{Running, Done}
+use Rattle.pic_machine.specs.declared.state.FiberState.{FiberState}
+use Rattle.pic_machine.specs.declared.state.FiberState.TheVariants.{Live, Ended}
+use Rattle.pic_machine.specs.declared.entry.Call.{Call}
+use Rattle.pic_machine.specs.declared.entry.Call.TheVariants.{Turn, Yield, Complete, Peek, Fork, Say, End}
+use Rattle.pic_machine.specs.State.{State, owed_of}
+use Rattle.pic_machine.specs.Duty.{ClockMakes, DutiesAllow, fulfilled, followed}
+use Rattle.pic_machine.specs.Step.{Allowed, IsLive, MayAct, NamesStand, after, has_room, owing, with_fiber, with_outcome}
+
+-- ---- lists
+
+slice_get-set_other : {A : Type 0} (xs : List A) (i j : ℕ) (x : A) → j ≢ i → slice_get (slice_set xs i x) j ≡ slice_get xs j
+slice_get-set_other [] i j x other = refl
+slice_get-set_other (y ∷ xs) zero zero x other = absurd (other refl)
+slice_get-set_other (y ∷ xs) zero (suc j) x other = refl
+slice_get-set_other (y ∷ xs) (suc i) zero x other = refl
+slice_get-set_other (y ∷ xs) (suc i) (suc j) x other = slice_get-set_other xs i j x (λ same. other (ap (λ (n : ℕ). suc n) same))
+
+slice_get-append_left : {A : Type 0} (xs ys : List A) (i : ℕ) (x : A) → slice_get xs i ≡ Some x → slice_get (xs ++ ys) i ≡ Some x
+slice_get-append_left [] ys i x is = absurd cc
+slice_get-append_left (y ∷ xs) ys zero x is = is
+slice_get-append_left (y ∷ xs) ys (suc i) x is = slice_get-append_left xs ys i x is
+
+-- a list with nothing more at its end
+nothing_more : (ds : List (List Duty)) (f : ℕ) → slice_index_or (ds ++ [] ∷ []) f [] ≡ slice_index_or ds f []
+nothing_more [] zero = refl
+nothing_more [] (suc f) = refl
+nothing_more (d ∷ ds) zero = refl
+nothing_more (d ∷ ds) (suc f) = nothing_more ds f
+
+-- ---- the clock
+
+-- the calls that only a fiber from 1 on makes, since no duty asks for them
+abbrev pub FiberMakes : Call → Type 0
+FiberMakes (Complete c o) = ⊥
+FiberMakes (Peek c) = ⊥
+FiberMakes _ = Unit {0}
+
+clock_never : (ds : List Duty) (call : Call) → FiberMakes call → ClockMakes ds call → ⊥
+clock_never [] call makes clock = clock
+clock_never (Signal t ∷ ds) call makes clock = clock
+clock_never (Follow from into ∷ ds) (Peek c) makes clock = makes
+clock_never (Follow from into ∷ ds) call makes clock = clock
+clock_never (Cancel into code ∷ ds) (Complete c o) makes clock = makes
+clock_never (Cancel into code ∷ ds) call makes clock = clock
+clock_never (Return into branch ∷ ds) (Complete c o) makes clock = makes
+clock_never (Return into branch ∷ ds) call makes clock = clock
+
+pub not_clock : (w : State) (f : ℕ) (call : Call) → Allowed w f call → FiberMakes call → f ≢ 0
+not_clock w f call allowed makes zero_is = clock_never (owed_of w f) call makes (allowed.clock zero_is)
+
+-- ---- computations
+
+outcome_comps : (w : State) (c : ℕ) (o : Outcome) (s : Option CompState) → length (with_outcome w c o s).comps ≡ length w.comps
+outcome_comps w c o None = refl
+outcome_comps w c o (Some Running) = length-set w.comps c (Done o)
+outcome_comps w c o (Some (Done x)) = refl
+
+forked_comps : (w : State) (b : Bool) → has_room w ≡ b → length (with_fiber w).comps ≡ length w.comps
+forked_comps w true room = rw room refl
+forked_comps w false room = rw room refl
+
+-- no step makes a computation yet, and none takes one away
+pub length-comps : (w : State) (f : ℕ) (call : Call) → length (after w f call).comps ≡ length w.comps
+length-comps w f Turn = refl
+length-comps w f Yield = refl
+length-comps w f (Complete c o) = outcome_comps (owing w f (fulfilled (owed_of w f))) c o (slice_get w.comps c)
+length-comps w f (Peek c) = refl
+length-comps w f (Fork text value) = forked_comps w (has_room w) refl
+length-comps w f (Say v) = refl
+length-comps w f (End o) = refl
+
+pub names_after : (w : State) (g : ℕ) (other call : Call) → NamesStand w call → NamesStand (after w g other) call
+names_after w g other Turn stand = tt
+names_after w g other Yield stand = tt
+names_after w g other (Complete c o) stand = subst (λ (n : ℕ). c < n) (sym (length-comps w g other)) stand
+names_after w g other (Peek c) stand = subst (λ (n : ℕ). c < n) (sym (length-comps w g other)) stand
+names_after w g other (Fork text value) stand = tt
+names_after w g other (Say v) stand = tt
+names_after w g other (End o) stand = tt
+
+-- ---- fibers
+
+outcome_fibers : (w : State) (c : ℕ) (o : Outcome) (s : Option CompState) → (with_outcome w c o s).fibers ≡ w.fibers
+outcome_fibers w c o None = refl
+outcome_fibers w c o (Some Running) = refl
+outcome_fibers w c o (Some (Done x)) = refl
+
+forked_fibers : (w : State) (b : Bool) → has_room w ≡ b → length w.fibers ≤ length (with_fiber w).fibers
+forked_fibers w true room = rw room (omega (arith, length-append w.fibers (Live ∷ [])))
+forked_fibers w false room = rw room (omega arith)
+
+-- no step takes a fiber away
+pub fibers_stay : (w : State) (f : ℕ) (call : Call) → length w.fibers ≤ length (after w f call).fibers
+fibers_stay w f Turn = omega arith
+fibers_stay w f Yield = omega arith
+fibers_stay w f (Complete c o) = rw (outcome_fibers (owing w f (fulfilled (owed_of w f))) c o (slice_get w.comps c)) (omega arith)
+fibers_stay w f (Peek c) = omega arith
+fibers_stay w f (Fork text value) = forked_fibers w (has_room w) refl
+fibers_stay w f (Say v) = omega arith
+fibers_stay w f (End o) = rw (length-set w.fibers (f - 1) (Ended o)) (omega arith)
+
+-- fibers in the same states, and maybe one more
+same_live : (old new : State) (f : ℕ) → new.fibers ≡ old.fibers → IsLive old f → IsLive new f
+same_live old new f same live = record { made = live.made; live = ap (λ (fs : List FiberState). slice_get fs (f - 1)) same ∙ live.live }
+
+forked_live : (w : State) (f : ℕ) (b : Bool) → has_room w ≡ b → IsLive w f → IsLive (with_fiber w) f
+forked_live w f true room live = rw room (record { made = live.made; live = slice_get-append_left w.fibers (Live ∷ []) (f - 1) Live live.live })
+forked_live w f false room live = rw room live
+
+-- a live fiber stays live while others act
+pub live_after : (w : State) (g : ℕ) (call : Call) (f : ℕ) → Allowed w g call → g ≢ f → IsLive w f → IsLive (after w g call) f
+live_after w g Turn f allowed other live = live
+live_after w g Yield f allowed other live = live
+live_after w g (Complete c o) f allowed other live = same_live w (after w g (Complete c o)) f (outcome_fibers (owing w g (fulfilled (owed_of w g))) c o (slice_get w.comps c)) live
+live_after w g (Peek c) f allowed other live = same_live w (after w g (Peek c)) f refl live
+live_after w g (Fork text value) f allowed other live = forked_live w f (has_room w) refl live
+live_after w g (Say v) f allowed other live = live
+live_after w g (End o) f allowed other live =
+    let acts : g ≢ 0 = not_clock w g (End o) allowed tt in
+    let apart : f - 1 ≢ g - 1 = λ same. other (omega (arith, same, live.made, acts)) in
+    record { made = live.made; live = slice_get-set_other w.fibers (g - 1) (f - 1) (Ended o) apart ∙ live.live }
+
+pub acts_after : (w : State) (g : ℕ) (call : Call) (f : ℕ) → Allowed w g call → g ≢ f → MayAct w f → MayAct (after w g call) f
+acts_after w g call f allowed other (inl clock) = inl clock
+acts_after w g call f allowed other (inr live) = inr (live_after w g call f allowed other live)
+
+-- ---- duties
+
+outcome_owed : (w : State) (c : ℕ) (o : Outcome) (s : Option CompState) → (with_outcome w c o s).owed ≡ w.owed
+outcome_owed w c o None = refl
+outcome_owed w c o (Some Running) = refl
+outcome_owed w c o (Some (Done x)) = refl
+
+forked_owed : (w : State) (f : ℕ) (b : Bool) → has_room w ≡ b → owed_of (with_fiber w) f ≡ owed_of w f
+forked_owed w f true room = rw room (nothing_more w.owed f)
+forked_owed w f false room = rw room refl
+
+-- a call changes what its own fiber owes, and no other's duties
+pub owed_after : (w : State) (g : ℕ) (call : Call) (f : ℕ) → g ≢ f → owed_of (after w g call) f ≡ owed_of w f
+owed_after w g Turn f other = refl
+owed_after w g Yield f other = refl
+owed_after w g (Complete c o) f other =
+    ap (λ (ds : List (List Duty)). slice_index_or ds f []) (outcome_owed (owing w g (fulfilled (owed_of w g))) c o (slice_get w.comps c))
+    ∙ get_or-set_other w.owed g f (fulfilled (owed_of w g)) [] (λ same. other (sym same))
+owed_after w g (Peek c) f other = get_or-set_other w.owed g f (followed (owed_of w g) (slice_get w.comps c)) [] (λ same. other (sym same))
+owed_after w g (Fork text value) f other = forked_owed w f (has_room w) refl
+owed_after w g (Say v) f other = refl
+owed_after w g (End o) f other = refl
+
+-- what a fiber may make it may make while others act
+pub allowed_after : (w : State) (g : ℕ) (other : Call) (f : ℕ) (call : Call) → Allowed w g other → g ≢ f → Allowed w f call → Allowed (after w g other) f call
+allowed_after w g other f call theirs apart mine =
+    let same : owed_of w f ≡ owed_of (after w g other) f = sym (owed_after w g other f apart) in
+    record {
+      caller = acts_after w g other f theirs apart mine.caller;
+      clock = λ zero_is. subst (λ (ds : List Duty). ClockMakes ds call) same (mine.clock zero_is);
+      duties = subst (λ (ds : List Duty). DutiesAllow ds call) same mine.duties;
+      names = names_after w g other call mine.names;
+    }
+
+-- ---- limits
+
+outcome_limits : (w : State) (c : ℕ) (o : Outcome) (s : Option CompState) → (with_outcome w c o s).limits ≡ w.limits
+outcome_limits w c o None = refl
+outcome_limits w c o (Some Running) = refl
+outcome_limits w c o (Some (Done x)) = refl
+
+forked_limits : (w : State) (b : Bool) → has_room w ≡ b → (with_fiber w).limits ≡ w.limits
+forked_limits w true room = rw room refl
+forked_limits w false room = rw room refl
+
+pub limits_after : (w : State) (f : ℕ) (call : Call) → (after w f call).limits ≡ w.limits
+limits_after w f Turn = refl
+limits_after w f Yield = refl
+limits_after w f (Complete c o) = outcome_limits (owing w f (fulfilled (owed_of w f))) c o (slice_get w.comps c)
+limits_after w f (Peek c) = refl
+limits_after w f (Fork text value) = forked_limits w (has_room w) refl
+limits_after w f (Say v) = refl
+limits_after w f (End o) = refl
+
+-- there are at most as many fibers as there may be
+abbrev pub IsWithin : State → Type 0
+IsWithin w = length w.fibers ≤ w.limits.fibers
+
+forked_within : (w : State) (b : Bool) → has_room w ≡ b → IsWithin w → IsWithin (with_fiber w)
+forked_within w true room within =
+    let less : length w.fibers < w.limits.fibers = grind (arith, nat_tests, room) in
+    rw room (omega (arith, less, length-append w.fibers (Live ∷ [])))
+forked_within w false room within = rw room within
+
+pub within_after : (w : State) (f : ℕ) (call : Call) → IsWithin w → IsWithin (after w f call)
+within_after w f Turn within = within
+within_after w f Yield within = within
+within_after w f (Complete c o) within =
+    rw (outcome_fibers (owing w f (fulfilled (owed_of w f))) c o (slice_get w.comps c), outcome_limits (owing w f (fulfilled (owed_of w f))) c o (slice_get w.comps c)) within
+within_after w f (Peek c) within = within
+within_after w f (Fork text value) within = forked_within w (has_room w) refl within
+within_after w f (Say v) within = within
+within_after w f (End o) within = rw (length-set w.fibers (f - 1) (Ended o)) within
+
+-- a fork finds no room exactly where there are as many fibers as there may be
+pub full_at_limit : (w : State) → IsWithin w → has_room w ≡ false → length w.fibers ≡ w.limits.fibers
+full_at_limit w within room =
+    let not_less : w.limits.fibers ≤ length w.fibers = grind (arith, nat_tests, room) in
+    omega (arith, within, not_less)

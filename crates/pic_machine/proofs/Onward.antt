@@ -27,12 +27,12 @@ pub record Onward {S : Type 0} (old new : Sight S) (others : List Happened) (h :
   pub follows : Follows old.origin (old.front ++ others) h
 
 module _ {S : Type 0} (old new : Sight S) (others : List Happened) (h : Happened) where
-  onward_legal : Onward old new others h → IsLegal new.origin new.front
+  pub onward_legal : Onward old new others h → IsLegal new.origin new.front
   onward_legal on =
       let there : IsLegal old.origin new.front = subst (IsLegal old.origin) (sym on.front) (IsLegal-push old.origin (old.front ++ others) h on.legal on.follows) in
       subst (λ (o : Origin). IsLegal o new.front) (sym on.origin) there
 
-  onward_later : Onward old new others h → Later old new (others ++ h ∷ [])
+  pub onward_later : Onward old new others h → Later old new (others ++ h ∷ [])
   onward_later on = record {
     origin = on.origin;
     share = on.share;

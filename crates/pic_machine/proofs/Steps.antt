@@ -13,7 +13,7 @@ use Rattle.pic_machine.specs.declared.entry.Call.{Call}
 use Rattle.pic_machine.specs.declared.entry.Call.TheVariants.{Turn, Yield, Complete, Peek, Fork, Say, End}
 use Rattle.pic_machine.specs.State.{State, owed_of}
 use Rattle.pic_machine.specs.Duty.{ClockMakes, DutiesAllow, fulfilled, followed}
-use Rattle.pic_machine.specs.Step.{Allowed, IsLive, MayAct, NamesStand, after, has_room, owing, with_fiber, with_outcome}
+use Rattle.pic_machine.specs.Step.{Allowed, IsLive, MakesNoFiber, MayAct, NamesStand, after, has_room, owing, with_fiber, with_outcome}
 
 -- ---- lists
 
@@ -108,6 +108,16 @@ fibers_stay w f (Fork text value) = forked_fibers w (has_room w) refl
 fibers_stay w f (Say v) = omega arith
 fibers_stay w f (End o) = rw (length-set w.fibers (f - 1) (Ended o)) (omega arith)
 
+-- only a fork makes a fiber
+pub length-fibers : (w : State) (f : ℕ) (call : Call) → MakesNoFiber call → length (after w f call).fibers ≡ length w.fibers
+length-fibers w f Turn none = refl
+length-fibers w f Yield none = refl
+length-fibers w f (Complete c o) none = ap (λ (fs : List FiberState). length fs) (outcome_fibers (owing w f (fulfilled (owed_of w f))) c o (slice_get w.comps c))
+length-fibers w f (Peek c) none = refl
+length-fibers w f (Fork text value) none = absurd none
+length-fibers w f (Say v) none = refl
+length-fibers w f (End o) none = length-set w.fibers (f - 1) (Ended o)
+
 -- fibers in the same states, and maybe one more
 same_live : (old new : State) (f : ℕ) → new.fibers ≡ old.fibers → IsLive old f → IsLive new f
 same_live old new f same live = record { made = live.made; live = ap (λ (fs : List FiberState). slice_get fs (f - 1)) same ∙ live.live }
@@ -116,18 +126,33 @@ forked_live : (w : State) (f : ℕ) (b : Bool) → has_room w ≡ b → IsLive w
 forked_live w f true room live = rw room (record { made = live.made; live = slice_get-append_left w.fibers (Live ∷ []) (f - 1) Live live.live })
 forked_live w f false room live = rw room live
 
--- a live fiber stays live while others act
+-- the calls that end no fiber
+abbrev pub EndsNone : Call → Type 0
+EndsNone (End o) = ⊥
+EndsNone _ = Unit {0}
+
+-- a live fiber stays live while none ends
+pub live_unless : (w : State) (g : ℕ) (call : Call) (f : ℕ) → EndsNone call → IsLive w f → IsLive (after w g call) f
+live_unless w g Turn f none live = live
+live_unless w g Yield f none live = live
+live_unless w g (Complete c o) f none live = same_live w (after w g (Complete c o)) f (outcome_fibers (owing w g (fulfilled (owed_of w g))) c o (slice_get w.comps c)) live
+live_unless w g (Peek c) f none live = same_live w (after w g (Peek c)) f refl live
+live_unless w g (Fork text value) f none live = forked_live w f (has_room w) refl live
+live_unless w g (Say v) f none live = live
+live_unless w g (End o) f none live = absurd none
+
+-- and while others act, who may end
 pub live_after : (w : State) (g : ℕ) (call : Call) (f : ℕ) → Allowed w g call → g ≢ f → IsLive w f → IsLive (after w g call) f
-live_after w g Turn f allowed other live = live
-live_after w g Yield f allowed other live = live
-live_after w g (Complete c o) f allowed other live = same_live w (after w g (Complete c o)) f (outcome_fibers (owing w g (fulfilled (owed_of w g))) c o (slice_get w.comps c)) live
-live_after w g (Peek c) f allowed other live = same_live w (after w g (Peek c)) f refl live
-live_after w g (Fork text value) f allowed other live = forked_live w f (has_room w) refl live
-live_after w g (Say v) f allowed other live = live
 live_after w g (End o) f allowed other live =
     let acts : g ≢ 0 = not_clock w g (End o) allowed tt in
     let apart : f - 1 ≢ g - 1 = λ same. other (omega (arith, same, live.made, acts)) in
     record { made = live.made; live = slice_get-set_other w.fibers (g - 1) (f - 1) (Ended o) apart ∙ live.live }
+live_after w g call f allowed other live = live_unless w g call f tt live
+
+-- a fiber that may act may still act after a call of its own that doesn't end it
+pub acts_own : (w : State) (f : ℕ) (call : Call) → EndsNone call → MayAct w f → MayAct (after w f call) f
+acts_own w f call none (inl clock) = inl clock
+acts_own w f call none (inr live) = inr (live_unless w f call f none live)
 
 pub acts_after : (w : State) (g : ℕ) (call : Call) (f : ℕ) → Allowed w g call → g ≢ f → MayAct w f → MayAct (after w g call) f
 acts_after w g call f allowed other (inl clock) = inl clock

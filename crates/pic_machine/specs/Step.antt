@@ -65,6 +65,11 @@ reply_of w f (Peek c) = peeked (slice_get w.comps c)
 reply_of w f (Fork text value) = fork_reply w
 reply_of w f _ = Plain
 
+-- the calls that make no fiber
+abbrev pub MakesNoFiber : Call → Type 0
+MakesNoFiber (Fork text value) = ⊥
+MakesNoFiber _ = ⊤
+
 -- ---- the world after
 
 -- fiber f owes this from now on

@@ -14,7 +14,7 @@ use Rattle.pic_machine.specs.declared.entry.Happened.{Happened}
 use Rattle.pic_machine.specs.declared.state.CompState.{CompState}
 use Rattle.pic_machine.specs.declared.state.CompState.TheVariants.{Running, Done}
 use Rattle.pic_machine.specs.State.{State, owed_of}
-use Rattle.pic_machine.specs.Step.{Allowed, IsLive, NamesStand, after, reply_of, completed, owing, peeked, with_outcome}
+use Rattle.pic_machine.specs.Step.{Allowed, IsLive, MakesNoFiber, NamesStand, after, reply_of, completed, owing, peeked, with_outcome}
 use Rattle.pic_machine.specs.Duty.{ClockMakes, DutiesAllow, fulfilled, followed}
 use Rattle.pic_machine.specs.History.{BirthFits, event, origin_of}
 use Rattle.pic_machine.specs.Log.{is_turn}
@@ -27,7 +27,7 @@ use Rattle.script_tree.specs.declared.program.CompRef.TheVariants.{Root, Named, 
 use Rattle.script_tree.specs.declared.program.Stmt.{Stmt}
 use Rattle.script_tree.specs.declared.program.Stmt.TheVariants.{Set, Say, Return, Cancel, Peek}
 use Rattle.pic_run.specs.Meaning.{Context, Does, set_next, say_next, return_next, cancel_next, peek_next, next, comp_number, value_of, with_register, state_number, outcome_number}
-use Rattle.pic_run.specs.Past.{Past, world_of, IsKept, MakesNoFiber, IsOneOf, Adds, Completes, Did, won_of, seen_of}
+use Rattle.pic_run.specs.Past.{Past, world_of, IsKept, IsOneOf, Adds, Completes, Did, won_of, seen_of}
 
 pub pair : {A B : Type 0} {a a' : A} {b b' : B} → a ≡ a' → b ≡ b' → ◌≡◌ {A = A × B} (a, b) (a', b')
 pair p q = λ i. (p i, q i)

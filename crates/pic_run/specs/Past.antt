@@ -1,9 +1,8 @@
 -- What the runner keeps: the history so far and the start that it goes on from; and what one statement
 -- adds to it. Only the runner's own contracts cite them.
-use Rattle.std.specs.Prelude.{◌≡◌, ℕ, ◌^◌, ◌<◌, ⊤, Option, Some, None, MatchOption, List, [], ◌∷◌, ◌++◌, length}
+use Rattle.std.specs.Prelude.{◌≡◌, ℕ, ◌^◌, ◌<◌, Option, Some, None, MatchOption, List, [], ◌∷◌, ◌++◌, length}
 use Rattle.std.specs.List.{AllByRecursion}
 use Rattle.pic_base.specs.declared.outcome.Outcome.{Outcome}
-use Rattle.pic_machine.specs.declared.entry.Call.{Call}
 use Rattle.pic_machine.specs.declared.entry.Call.TheVariants as call
 use Rattle.pic_machine.specs.declared.entry.CompleteReply.{CompleteReply}
 use Rattle.pic_machine.specs.declared.entry.Reply.{Reply}
@@ -36,11 +35,6 @@ pub record IsKept (past : Past) (machine : State) : Type 0 where
 pub record MainRuns (w : State) : Type 0 where
   pub fibers : w.fibers ≡ Live ∷ []
   pub few : length w.comps < 2 ^ 32
-
--- the calls that make no fiber: a run serves no others yet
-abbrev pub MakesNoFiber : Call → Type 0
-MakesNoFiber (call.Fork text value) = ⊥
-MakesNoFiber _ = ⊤
 
 -- the computation has a number, and is one of so many
 abbrev pub IsOneOf : ℕ → CompRef → Type 0

@@ -1,9 +1,9 @@
 //! Runs a program's main fiber on the machine, and keeps the history.
 ghost use Rattle.std.specs.Prelude.{◌≡◌, ◌++◌, ◌∷◌, [], IfOk, OnErr, OnOk};
 ghost use Rattle.pic_machine.specs.State.{CanStart};
-ghost use Rattle.pic_machine.specs.Step.{IsLive, NamesStand, reply_of};
+ghost use Rattle.pic_machine.specs.Step.{IsLive, MakesNoFiber, NamesStand, reply_of};
 ghost use Rattle.pic_machine.specs.History.{IsLegal, event, origin_of};
-ghost use Rattle.pic_run.specs.Past.{MakesNoFiber, world_of};
+ghost use Rattle.pic_run.specs.Past.{world_of};
 
 use pic_base::{FiberNo, Memory};
 use pic_machine::{Call, CompState, FiberState, Happened, Reply, Start, World};

@@ -1,0 +1,164 @@
+-- How a fork keeps the port's invariant, whether it makes a fiber or finds no room for one.
+use Rattle.std.proofs.Common.{◌≡◌, ◌≢◌, ℕ, ◌+◌, ◌-◌, ◌⊎◌, inl, inr, Bool, true, false, Option, Some, None, List, [], ◌∷◌, ◌++◌, length, slice_get, refl, sym, ap, subst, ◌∙◌, append-nil, arith}
+use Rattle.std.proofs.lemmas.List.{length-append}
+use Rattle.std.proofs.lemmas.Option.{slice_get_within}
+use Rattle.pic_machine.specs.declared.birth.Birth.{Birth}
+use Rattle.pic_machine.specs.declared.state.FiberState.TheVariants.{Live}
+use Rattle.pic_machine.specs.declared.entry.Call.TheVariants.{Fork}
+use Rattle.pic_machine.specs.declared.entry.Reply.{Reply}
+use Rattle.pic_machine.specs.declared.entry.Reply.TheVariants.{Full, Made}
+use Rattle.pic_machine.specs.declared.entry.Happened.{Happened}
+use Rattle.pic_machine.specs.State.{State, world_at}
+use Rattle.pic_machine.specs.Step.{fork_reply, has_room, with_fiber}
+use Rattle.pic_machine.specs.History.{Follows, IsLegal, MayMake, event, forked, origin_of, world}
+use Rattle.pic_machine.specs.Sight.{Carry, IsChild}
+use Rattle.pic_machine.specs.Home.{IsHome}
+use Rattle.pic_machine.specs.Lending as lending
+use Rattle.pic_machine.proofs.Fresh.{IsFresh}
+use Rattle.pic_machine.proofs.Histories.{IsLegal-push, world-push}
+use Rattle.pic_machine.proofs.Homes.{child_home}
+use Rattle.pic_machine.proofs.Quiet.{IsQuiet-owed, IsQuiet-start}
+use Rattle.port_plain.specs.Shown.{Shown, listed, made_of, sight_of, with_entry}
+use Rattle.port_plain.specs.Stored.{IsStored}
+use Rattle.port_plain.proofs.Places.{get-append_left, get-pushed}
+use Rattle.port_plain.proofs.Keeping.{elsewhere, entry_stored, later, still_home, stored_seen, world_seen}
+
+-- ---- what the reply tells
+
+-- no number: there was no room
+record IsFull (w : State) (reply : Reply) : Type 0 where
+  pub full : reply ≡ Full
+  pub none : has_room w ≡ false
+
+full_at : (w : State) (reply : Reply) (b : Bool) → has_room w ≡ b → reply ≡ fork_reply w → None ≡ made_of reply → IsFull w reply
+full_at w reply true room is none =
+    let made : reply ≡ Made (length w.fibers + 1) = is ∙ (rw room refl) in
+    let e : None ≡ Some (length w.fibers + 1) = none ∙ ap made_of made in absurd cc
+full_at w reply false room is none = record { full = is ∙ (rw room refl); none = room }
+
+-- a number: that of the newest fiber
+record IsNext (w : State) (n : ℕ) : Type 0 where
+  pub number : n ≡ length w.fibers + 1
+  pub room : has_room w ≡ true
+
+next_at : (w : State) (reply : Reply) (n : ℕ) (b : Bool) → has_room w ≡ b → reply ≡ fork_reply w → Some n ≡ made_of reply → IsNext w n
+next_at w reply n true room is made =
+    let newest : reply ≡ Made (length w.fibers + 1) = is ∙ (rw room refl) in
+    let e : Some n ≡ Some (length w.fibers + 1) = made ∙ ap made_of newest in
+    let number : n ≡ length w.fibers + 1 = cc in
+    record { number = number; room = room }
+next_at w reply n false room is made =
+    let full : reply ≡ Full = is ∙ (rw room refl) in
+    let e : Some n ≡ None = made ∙ ap made_of full in absurd cc
+
+no_room_many : (w : State) → has_room w ≡ false → length (with_fiber w).fibers ≡ length w.fibers
+no_room_many w room = rw room refl
+
+room_many : (w : State) → has_room w ≡ true → length (with_fiber w).fibers ≡ length w.fibers + 1
+room_many w room = rw room (length-append w.fibers (Live ∷ []))
+
+none_more : (xs ys : List Happened) (h : Happened) (more : List Happened) → ys ≡ (xs ++ more) ++ h ∷ [] → length ys ≡ length xs + 1 → length more ≡ 0
+none_more xs ys h more is one = omega (arith, ap (λ (zs : List Happened). length zs) is, one, length-append (xs ++ more) (h ∷ []), length-append xs more)
+
+module _ {B S : Type 0} (seen : B → Carry S) (fits : B → List Happened → Type 0) where
+  module _ (port now : Shown B) (w : State) (bodies : List (Option B)) (ticking : B) (same : port ≡ now) (stored : IsStored seen fits port w bodies ticking) (f text value : ℕ) (may : MayMake (origin_of now.start) now.front f (Fork text value))
+      (out : now.out ≡ Some f) (reply : Reply) (is : reply ≡ fork_reply w) (v : State) (step : v ≡ with_fiber w) where
+    -- ---- no room
+
+    module _ (none : None ≡ made_of reply) where
+      no_room : IsFull w reply
+      no_room = full_at w reply (has_room w) refl is none
+
+      pub full_follows : Follows (origin_of now.start) now.front (event f (Fork text value) Full)
+      full_follows = record {
+        may = may;
+        reply = sym no_room.full ∙ (is ∙ ap fork_reply (world_seen seen fits port now w bodies ticking same stored));
+        birth = refl;
+      }
+
+      pub full_reply : reply ≡ Full
+      full_reply = no_room.full
+
+      pub full_stored : IsStored seen fits (with_entry port (event f (Fork text value) reply)) v bodies ticking
+      full_stored =
+          subst (λ (q : Shown B). IsStored seen fits (with_entry q (event f (Fork text value) reply)) v bodies ticking) (sym same)
+          (subst (λ (r : Reply). IsStored seen fits (with_entry now (event f (Fork text value) r)) v bodies ticking) (sym no_room.full)
+          (entry_stored seen fits now w v bodies ticking (event f (Fork text value) Full) (stored_seen seen fits port now w bodies ticking same stored) out full_follows step (no_room_many w no_room.none)))
+
+    -- ---- a fiber was made
+
+    module _ (n : ℕ) (made : Some n ≡ made_of reply) (child numbered : B) (fresh_child : IsChild (sight_of seen now) (seen child) text value) where
+      abbrev birth : Birth
+      birth = (seen child).birth
+
+      abbrev h : Happened
+      h = forked f n birth
+
+      here : world (origin_of now.start) now.front ≡ w
+      here = sym (world_seen seen fits port now w bodies ticking same stored)
+
+      before : IsStored seen fits now w bodies ticking
+      before = stored_seen seen fits port now w bodies ticking same stored
+
+      next : IsNext w n
+      next = next_at w reply n (has_room w) refl is made
+
+      pub made_follows : Follows (origin_of now.start) now.front (forked f n (seen child).birth)
+      made_follows = record {
+        may = rw (fresh_child.same_text, fresh_child.same_value) may;
+        reply = rw (here, next.room, next.number) refl;
+        birth = record { of_child = birth; is = refl; same_text = refl; same_value = refl; stands = fresh_child.stands };
+      }
+
+      legal : IsLegal (origin_of now.start) (now.front ++ h ∷ [])
+      legal = IsLegal-push (origin_of now.start) now.front h before.legal made_follows
+
+      many : length bodies + 1 ≡ length (with_fiber w).fibers
+      many = ap (λ (m : ℕ). m + 1) before.count ∙ sym (room_many w next.room)
+
+      place_is : n ≡ length bodies + 1
+      place_is = next.number ∙ ap (λ (m : ℕ). m + 1) (sym before.count)
+
+      not_mine : n ≢ f
+      not_mine = λ equal. absurd (omega (arith, equal, place_is, slice_get_within bodies (f - 1) None (before.away f out).place, (before.away f out).made))
+
+      front_made : lending.Made (sight_of seen now) (sight_of seen (with_entry now h)) h
+      front_made = record { others = []; none = λ alone. refl; not_mine = tt; later = later seen fits now h; legal = legal; calm = refl }
+
+      fresh_there : (others : List Happened) → now.front ++ h ∷ [] ≡ (now.front ++ others) ++ h ∷ [] → IsFresh (world (origin_of now.start) (now.front ++ others)) n
+      fresh_there others front = none_there others (none_more now.front (now.front ++ h ∷ []) h others front (length-append now.front (h ∷ []))) where
+        none_there : (others : List Happened) → length others ≡ 0 → IsFresh (world (origin_of now.start) (now.front ++ others)) n
+        none_there [] empty = rw (append-nil now.front, here, next.number) (omega arith)
+        none_there (x ∷ xs) empty = absurd (omega (arith, empty))
+
+      module _ (number : (seen numbered).number ≡ Some n) (born : (seen numbered).birth ≡ (seen child).birth) (share : (seen numbered).share ≡ (seen child).share) (owes : (seen numbered).owes ≡ (seen child).owes) (fitting : fits numbered []) where
+        child_there : IsHome seen fits (sight_of seen (with_entry now h)) n numbered
+        child_there =
+            child_home seen fits (sight_of seen now) (sight_of seen (with_entry now h)) f n birth numbered front_made fresh_there (λ one. absurd (omega (arith, one, place_is, before.main))) not_mine
+            (IsQuiet-owed (world_at now.start) n (IsQuiet-start now.start)) number born (share ∙ fresh_child.share) (ap listed (owes ∙ fresh_child.owes)) fitting
+
+        each_home : (place : ℕ) (body : B) → (slice_get bodies place ≡ Some (Some body)) ⊎ ((place ≡ length bodies) × (Some numbered ≡ Some body)) → IsHome seen fits (sight_of seen (with_entry now h)) (place + 1) body
+        each_home place body (inl there) = still_home seen fits now h (place + 1) body legal (elsewhere seen fits bodies f place body (before.away f out) there) (before.home place body there)
+        each_home place body (inr last) =
+            let equal : numbered ≡ body = (let e : Some numbered ≡ Some body = last.1 in cc) in
+            let at : n ≡ place + 1 = place_is ∙ ap (λ (m : ℕ). m + 1) (sym last.0) in
+            subst (λ (b : B). IsHome seen fits (sight_of seen (with_entry now h)) (place + 1) b) equal (subst (λ (m : ℕ). IsHome seen fits (sight_of seen (with_entry now h)) m numbered) at child_there)
+
+        none_else : (place : ℕ) → (slice_get bodies place ≡ Some None) ⊎ ((place ≡ length bodies) × (Some numbered ≡ None)) → now.out ≡ Some (place + 1)
+        none_else place (inl there) = before.gone place there
+        none_else place (inr last) = absurd (let e : Some numbered ≡ None = last.1 in cc)
+
+        child_stored : IsStored seen fits (with_entry now h) v (bodies ++ Some numbered ∷ []) ticking
+        child_stored = record {
+          legal = legal;
+          now = step ∙ (ap with_fiber (sym here) ∙ sym (world-push (origin_of now.start) now.front h));
+          main = rw (length-append bodies (Some numbered ∷ [])) (omega arith);
+          count = length-append bodies (Some numbered ∷ []) ∙ (many ∙ ap (λ (u : State). length u.fibers) (sym step));
+          home = λ place body there. each_home place body (get-pushed bodies (Some numbered) place (Some body) there);
+          away = λ g gone. record { made = (before.away g gone).made; place = get-append_left bodies (Some numbered ∷ []) (g - 1) None (before.away g gone).place };
+          gone = λ place empty. none_else place (get-pushed bodies (Some numbered) place None empty);
+          clock = still_home seen fits now h 0 ticking legal (λ zero_is. absurd (omega (arith, zero_is, (before.away f out).made))) before.clock;
+        }
+
+        pub fork_stored : IsStored seen fits (with_entry port (forked f n (seen child).birth)) v (bodies ++ Some numbered ∷ []) ticking
+        fork_stored = subst (λ (q : Shown B). IsStored seen fits (with_entry q h) v (bodies ++ Some numbered ∷ []) ticking) (sym same) child_stored

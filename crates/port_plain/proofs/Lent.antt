@@ -1,0 +1,254 @@
+-- How what the port made shows as what the contract of ports asks.
+use Rattle.std.proofs.Common.{◌≡◌, ℕ, inr, Bool, true, false, Option, Some, None, List, [], ◌∷◌, ◌++◌, refl, sym, ap, subst, ◌∙◌, ◌&&◌, ◌==◌, append-nil, arith}
+use Rattle.pic_machine.specs.declared.entry.Call.{Call}
+use Rattle.pic_machine.specs.declared.entry.Call.TheVariants.{Turn, Yield, Complete, Peek, Fork, Say, End}
+use Rattle.pic_machine.specs.declared.entry.Reply.{Reply}
+use Rattle.pic_machine.specs.declared.entry.Reply.TheVariants as reply
+use Rattle.pic_machine.specs.declared.entry.Reply.TheVariants.{Plain}
+use Rattle.pic_machine.specs.declared.port.PortFault.{PortFault}
+use Rattle.pic_machine.specs.declared.port.PortFault.TheVariants.{Full, Memory}
+use Rattle.pic_machine.specs.declared.entry.Happened.{Happened}
+use Rattle.pic_machine.specs.declared.world.Start.{Start}
+use Rattle.pic_machine.specs.State.{State, owed_of}
+use Rattle.pic_machine.specs.Step.{IsLive, MayAct, after, reply_of}
+use Rattle.pic_machine.specs.History.{Follows, IsLegal, event, forked, origin_of, world}
+use Rattle.pic_machine.specs.Log.{is_turn, log, visible}
+use Rattle.pic_machine.specs.Sight.{Carry, Holds, IsChild, IsSame, Notes, fiber_of}
+use Rattle.pic_machine.specs.Home.{IsHome}
+use Rattle.pic_machine.specs.Lending.{Began, Called, FitsWith, Kept, Laid, Lent, Made, RefusesMaking, Spared}
+use Rattle.pic_machine.proofs.Histories.{log-push_hidden, world-push}
+use Rattle.pic_machine.proofs.Homes.{home_held, made_home}
+use Rattle.pic_machine.proofs.Onward.{Onward, onward_began, onward_lent, onward_made, spared}
+use Rattle.pic_machine.proofs.Quiet.{IsQuiet-owed, IsQuiet-start, IsQuiet-world}
+use Rattle.pic_machine.proofs.Standing.{birth_stays}
+use Rattle.port_plain.specs.Shown.{IsLast, IsLent, MakesNoFiber, NoFiber, Shown, listed, sight_of, with_entry}
+use Rattle.port_plain.proofs.Steps.{Acts, acts_on}
+
+-- ---- which calls are which
+
+pub lent_no_fiber : (call : Call) → IsLent call → MakesNoFiber call
+lent_no_fiber Turn is = absurd is
+lent_no_fiber Yield is = absurd is
+lent_no_fiber (Complete c o) is = tt
+lent_no_fiber (Peek c) is = tt
+lent_no_fiber (Fork text value) is = absurd is
+lent_no_fiber (Say v) is = tt
+lent_no_fiber (End o) is = absurd is
+
+pub lent_acts : (call : Call) → IsLent call → Acts call
+lent_acts Turn is = absurd is
+lent_acts Yield is = absurd is
+lent_acts (Complete c o) is = tt
+lent_acts (Peek c) is = tt
+lent_acts (Fork text value) is = absurd is
+lent_acts (Say v) is = tt
+lent_acts (End o) is = absurd is
+
+pub lent_within : (call : Call) → IsLent call → is_turn call ≡ false
+lent_within Turn is = absurd is
+lent_within Yield is = absurd is
+lent_within (Complete c o) is = refl
+lent_within (Peek c) is = refl
+lent_within (Fork text value) is = absurd is
+lent_within (Say v) is = refl
+lent_within (End o) is = absurd is
+
+-- ---- the front
+
+-- nobody owes anything
+pub owes_none : (start : Start) (front : List Happened) (f : ℕ) → owed_of (world (origin_of start) front) f ≡ []
+owes_none start front f = IsQuiet-owed (world (origin_of start) front) f (IsQuiet-world (origin_of start) front (IsQuiet-start start))
+
+pub fiber_is : {S : Type 0} (body : Carry S) (n : ℕ) → body.number ≡ Some n → fiber_of body ≡ n
+fiber_is body n number = ap (λ (m : Option ℕ). fiber_of (record body { number = m })) number
+
+module _ {B S : Type 0} (seen : B → Carry S) (port : Shown B) (h : Happened) (legal : IsLegal (origin_of port.start) port.front) (follows : Follows (origin_of port.start) port.front h) where
+  -- the front grew by this entry, whatever is out then
+  pub onward : (out : Option ℕ) → Onward (sight_of seen port) (sight_of seen (record (with_entry port h) { out = out })) [] h
+  onward out = record {
+    origin = refl;
+    share = refl;
+    alone = refl;
+    calm = refl;
+    front = ap (λ (zs : List Happened). zs ++ h ∷ []) (sym (append-nil port.front));
+    none = λ alone. refl;
+    legal = subst (IsLegal (origin_of port.start)) (sym (append-nil port.front)) legal;
+    follows = subst (λ (zs : List Happened). Follows (origin_of port.start) zs h) (sym (append-nil port.front)) follows;
+  }
+
+  pub front_made : (out : Option ℕ) → Made (sight_of seen port) (sight_of seen (record (with_entry port h) { out = out })) h
+  front_made out = onward_made (sight_of seen port) (sight_of seen (record (with_entry port h) { out = out })) [] h (onward out) tt
+
+  pub front_began : (out : Option ℕ) → Began (sight_of seen port) (sight_of seen (record (with_entry port h) { out = out })) h
+  front_began out = onward_began (sight_of seen port) (sight_of seen (record (with_entry port h) { out = out })) [] h (onward out)
+
+  -- the body whose fiber made it, and in which it was noted
+  pub lent : (a b : Carry S) → Holds (sight_of seen port) a → h.entry.fiber ≡ fiber_of a → is_turn h.entry.call ≡ false → Acts h.entry.call → Notes a b (h.entry ∷ []) → Lent (sight_of seen port) (sight_of seen (with_entry port h)) a b h
+  lent a b holds mine within acts notes =
+      let none : listed b.owes ≡ [] = ap listed notes.owes ∙ (holds.owes ∙ owes_none port.start port.front (fiber_of a)) in
+      let stays : MayAct (after (world (origin_of port.start) port.front) h.entry.fiber h.entry.call) (fiber_of a) =
+      subst (λ (f : ℕ). MayAct (after (world (origin_of port.start) port.front) f h.entry.call) (fiber_of a)) (sym mine) (acts_on (world (origin_of port.start) port.front) (fiber_of a) h.entry.call acts holds.acts) in
+      onward_lent (sight_of seen port) (sight_of seen (with_entry port h)) a b [] h (onward port.out) tt holds refl mine within notes.birth notes.number (notes.noted ∙ rw within refl) notes.share
+      (none ∙ sym (owes_none port.start (port.front ++ h ∷ []) (fiber_of a))) (subst (λ (w : State). MayAct w (fiber_of a)) (sym (world-push (origin_of port.start) port.front h)) stays)
+
+-- ---- nothing happened
+
+module _ {B S : Type 0} (seen : B → Carry S) (port : Shown B) where
+  abbrev pub kept_same : IsLegal (origin_of port.start) port.front → Kept (sight_of seen port) (sight_of seen port)
+  kept_same legal = record {
+    grown = record {
+      others = [];
+      none = λ alone. refl;
+      later = record { origin = refl; share = refl; alone = refl; front = sym (append-nil port.front); steady = omega arith };
+      legal = legal;
+    };
+    out = refl;
+  }
+
+  pub spared_same : (a b : Carry S) → Holds (sight_of seen port) a → IsSame a b → b.owes ≡ a.owes → Spared (sight_of seen port) (sight_of seen port) a b
+  spared_same a b holds same owes = spared (sight_of seen port) (sight_of seen port) a b (kept_same holds.legal) tt holds same (ap listed owes)
+
+  pub spared_itself : (a : Carry S) → Holds (sight_of seen port) a → Spared (sight_of seen port) (sight_of seen port) a a
+  spared_itself a holds = spared_same a a holds (record { birth = refl; number = refl; noted = refl; share = refl }) refl
+
+  pub refused : (new : Shown B) (a : Carry S) → new ≡ port → Holds (sight_of seen port) a → Spared (sight_of seen port) (sight_of seen new) a a
+  refused new a same holds = subst (λ (q : Shown B). Spared (sight_of seen port) (sight_of seen q) a a) (sym same) (spared_itself a holds)
+
+-- ---- the calls that a body is lent for
+
+module _ {B S : Type 0} (seen : B → Carry S) (port new : Shown B) (f : ℕ) (call : Call) (reply : Reply) (made : new ≡ with_entry port (event f call reply)) (follows : Follows (origin_of port.start) port.front (event f call reply)) where
+  pub called : (a b : Carry S) → Holds (sight_of seen port) a → a.number ≡ Some f → Acts call → is_turn call ≡ false → Notes a b ((event f call reply).entry ∷ []) → Called (sight_of seen port) (sight_of seen new) a b call reply
+  called a b holds number acts within notes =
+      let is : fiber_of a ≡ f = fiber_is a f number in
+      subst (λ (q : Shown B). Called (sight_of seen port) (sight_of seen q) a b call reply) (sym made)
+      (subst (λ (n : ℕ). Lent (sight_of seen port) (sight_of seen (with_entry port (event f call reply))) a b (event n call reply)) (sym is)
+      (lent seen port (event f call reply) holds.legal follows a b holds (sym is) within acts notes))
+
+  pub lent_called : (a b : Carry S) → Holds (sight_of seen port) a → a.number ≡ Some f → IsLent call → Notes a b ((event f call reply).entry ∷ []) → Called (sight_of seen port) (sight_of seen new) a b call reply
+  lent_called a b holds number is notes = called a b holds number (lent_acts call is) (lent_within call is) notes
+
+-- ---- the calls with which a turn is over
+
+pub last_plain : (w : State) (f : ℕ) (call : Call) → IsLast call → reply_of w f call ≡ Plain
+last_plain w f Turn is = absurd is
+last_plain w f Yield is = refl
+last_plain w f (Complete c o) is = absurd is
+last_plain w f (Peek c) is = absurd is
+last_plain w f (Fork text value) is = absurd is
+last_plain w f (Say v) is = absurd is
+last_plain w f (End o) is = refl
+
+pub last_within : (call : Call) → IsLast call → is_turn call ≡ false
+last_within Turn is = absurd is
+last_within Yield is = refl
+last_within (Complete c o) is = absurd is
+last_within (Peek c) is = absurd is
+last_within (Fork text value) is = absurd is
+last_within (Say v) is = absurd is
+last_within (End o) is = refl
+
+module _ {B S : Type 0} (seen : B → Carry S) (fits : B → List Happened → Type 0) (same_rest : B → B → Type 0) (port new : Shown B) (f : ℕ) (call : Call) (reply : Reply) (last : IsLast call) (made : new ≡ with_entry port (event f call reply))
+    (follows : Follows (origin_of port.start) port.front (event f call reply)) (body : B) (holds : Holds (sight_of seen port) (seen body)) (number : (seen body).number ≡ Some f) where
+  abbrev h : Happened
+  h = event (fiber_of (seen body)) call Plain
+
+  is_plain : reply ≡ Plain
+  is_plain = follows.reply ∙ last_plain (world (origin_of port.start) port.front) f call last
+
+  is_h : event f call reply ≡ h
+  is_h = ap (λ (r : Reply). event f call r) is_plain ∙ ap (λ (n : ℕ). event n call Plain) (sym (fiber_is (seen body) f number))
+
+  h_made : new ≡ with_entry port h
+  h_made = made ∙ ap (with_entry port) is_h
+
+  h_follows : Follows (origin_of port.start) port.front h
+  h_follows = subst (Follows (origin_of port.start) port.front) is_h follows
+
+  pub finished : (later : Shown B) → later ≡ record new { out = None } → Made (sight_of seen port) (sight_of seen later) (event (fiber_of (seen body)) call Plain)
+  finished later is =
+      subst (λ (q : Shown B). Made (sight_of seen port) (sight_of seen q) h) (sym (is ∙ ap (λ (q : Shown B). record q { out = None }) h_made))
+      (front_made seen port h holds.legal h_follows None)
+
+  -- the body comes home with the entry
+  pub finished_home : (noted : B) → Notes (seen body) (seen noted) ((event f call reply).entry ∷ []) → same_rest body noted → FitsWith seen same_rest fits body (log port.front (fiber_of (seen body))) h → IsHome seen fits (sight_of seen new) (fiber_of (seen noted)) noted
+  finished_home noted notes rest fitting =
+      let g : ℕ = fiber_of (seen body) in
+      let same : fiber_of (seen noted) ≡ g = ap (λ (m : Option ℕ). fiber_of (record (seen body) { number = m })) notes.number in
+      let noted_h : Notes (seen body) (seen noted) (h.entry ∷ []) = subst (λ (x : Happened). Notes (seen body) (seen noted) (x.entry ∷ [])) is_h notes in
+      let owes : listed (seen noted).owes ≡ owed_of (world (origin_of port.start) (port.front ++ h ∷ [])) g =
+      ap listed notes.owes ∙ (holds.owes ∙ (owes_none port.start port.front g ∙ sym (owes_none port.start (port.front ++ h ∷ []) g))) in
+      let home : IsHome seen fits (sight_of seen (with_entry port h)) g noted =
+      made_home seen fits (sight_of seen port) (sight_of seen (with_entry port h)) (seen body) h g noted holds refl (front_made seen port h holds.legal h_follows port.out) refl (last_within call last) notes.number notes.birth notes.share
+      (fitting noted noted_h rest) owes in
+      subst (λ (q : Shown B). IsHome seen fits (sight_of seen q) (fiber_of (seen noted)) noted) (sym h_made) (subst (λ (n : ℕ). IsHome seen fits (sight_of seen (with_entry port h)) n noted) (sym same) home)
+
+-- ---- a fork
+
+module _ {B S : Type 0} (seen : B → Carry S) (port new : Shown B) (f text value : ℕ) (a b : Carry S) (holds : Holds (sight_of seen port) a) (number : a.number ≡ Some f) where
+  pub fork_lent : (n : ℕ) (child : Carry S) → IsChild (sight_of seen port) child text value → new ≡ with_entry port (forked f n child.birth) → Follows (origin_of port.start) port.front (forked f n child.birth)
+      → Notes a b (record { fiber = f; call = Fork text value; reply = reply.Made n } ∷ []) → Lent (sight_of seen port) (sight_of seen new) a b (forked (fiber_of a) n child.birth)
+  fork_lent n child is_child made follows notes =
+      let is : fiber_of a ≡ f = fiber_is a f number in
+      let noted : Notes a b ((forked f n child.birth).entry ∷ []) = rw (is_child.same_text, is_child.same_value) notes in
+      subst (λ (q : Shown B). Lent (sight_of seen port) (sight_of seen q) a b (forked (fiber_of a) n child.birth)) (sym made)
+      (subst (λ (m : ℕ). Lent (sight_of seen port) (sight_of seen (with_entry port (forked f n child.birth))) a b (forked m n child.birth)) (sym is)
+      (lent seen port (forked f n child.birth) holds.legal follows a b holds (sym is) refl tt noted))
+
+  pub fork_full : (fault : PortFault) → fault ≡ Full → NoFiber fault port new f (Fork text value) → Notes a b (record { fiber = f; call = Fork text value; reply = reply.Full } ∷ []) → RefusesMaking Full (sight_of seen port) (sight_of seen new) a b (Fork text value)
+  fork_full fault is none notes =
+      let full : NoFiber Full port new f (Fork text value) = subst (λ (x : PortFault). NoFiber x port new f (Fork text value)) is none in
+      called seen port new f (Fork text value) reply.Full full.0 full.1 a b holds number tt refl notes
+
+pub fork_none : {B : Type 0} (port new : Shown B) (f : ℕ) (call : Call) (fault : PortFault) → fault ≡ Memory → NoFiber fault port new f call → new ≡ port
+fork_none port new f call fault is none = subst (λ (x : PortFault). NoFiber x port new f call) is none
+
+-- ---- a body that goes out, or comes home as it was
+
+never_both : (b : Bool) → (b && false) ≡ false
+never_both true = refl
+never_both false = refl
+
+module _ {B S : Type 0} (seen : B → Carry S) (fits : B → List Happened → Type 0) (port : Shown B) (f : ℕ) where
+  abbrev turn : Happened
+  turn = event f Turn Plain
+
+  module _ (taken new : Shown B) (reply : Reply) (out : taken ≡ record port { out = Some f }) (made : new ≡ with_entry taken (event f Turn reply)) (legal : IsLegal (origin_of taken.start) taken.front) (follows : Follows (origin_of taken.start) taken.front (event f Turn reply)) where
+    is_turned : new ≡ record (with_entry port turn) { out = Some f }
+    is_turned =
+        let plain : reply ≡ Plain = follows.reply in
+        made ∙ (ap (λ (r : Reply). with_entry taken (event f Turn r)) plain ∙ ap (λ (q : Shown B). with_entry q turn) out)
+
+    turn_follows : Follows (origin_of port.start) port.front turn
+    turn_follows =
+        let plain : reply ≡ Plain = follows.reply in
+        subst (λ (q : Shown B). Follows (origin_of q.start) q.front turn) out (subst (λ (r : Reply). Follows (origin_of taken.start) taken.front (event f Turn r)) plain follows)
+
+    legal_before : IsLegal (origin_of port.start) port.front
+    legal_before = subst (λ (q : Shown B). IsLegal (origin_of q.start) q.front) out legal
+
+    pub claim_began : Began (sight_of seen port) (sight_of seen new) (event f Turn Plain)
+    claim_began = subst (λ (q : Shown B). Began (sight_of seen port) (sight_of seen q) turn) (sym is_turned) (front_began seen port turn legal_before turn_follows (Some f))
+
+    -- a body at home stays as it is while a turn of its fiber begins
+    turned_home : (body : B) → IsHome seen fits (sight_of seen port) f body → IsHome seen fits (sight_of seen (record (with_entry port turn) { out = Some f })) f body
+    turned_home body home = record {
+      number = home.number;
+      fitting = subst (fits body) (sym (log-push_hidden port.front turn f (never_both (f == f)))) home.fitting;
+      owes = home.owes ∙ (owes_none port.start port.front f ∙ sym (owes_none port.start (port.front ++ turn ∷ []) f));
+      birth = λ fiber. birth_stays (origin_of port.start) port.front (turn ∷ []) f (seen body).birth (home.birth fiber);
+      share = home.share;
+    }
+
+    pub claim_held : ((body : B) (zs : List Happened) → fits body zs → (seen body).noted ≡ visible zs) → (body : B) → IsHome seen fits (sight_of seen port) f body → IsLive (world (origin_of port.start) port.front) f
+        → Holds (sight_of seen new) (seen body) × (fiber_of (seen body) ≡ f) × fits body (log new.front f)
+    claim_held shows body home live =
+        let there = turned_home body home in
+        let q : Shown B = record (with_entry port turn) { out = Some f } in
+        let acts : MayAct (world (origin_of q.start) q.front) f = subst (λ (w : State). MayAct w f) (sym (world-push (origin_of port.start) port.front turn)) (acts_on (world (origin_of port.start) port.front) f Turn tt (inr live)) in
+        let held = home_held seen fits (sight_of seen q) f body there (front_began seen port turn legal_before turn_follows (Some f)).legal refl acts (shows body (log q.front f) there.fitting) in
+        subst (λ (r : Shown B). Holds (sight_of seen r) (seen body) × (fiber_of (seen body) ≡ f) × fits body (log r.front f)) (sym is_turned) (held.0, held.1, there.fitting)
+
+  pub laid_back : (new : Shown B) → new ≡ record port { out = None } → IsLegal (origin_of port.start) port.front → Laid (sight_of seen port) (sight_of seen new) f
+  laid_back new is legal =
+      subst (λ (q : Shown B). Laid (sight_of seen port) (sight_of seen q) f) (sym is)
+      (record { grown = record { others = []; none = λ alone. refl; later = record { origin = refl; share = refl; alone = refl; front = sym (append-nil port.front); steady = omega arith }; legal = legal }; not_mine = tt; calm = refl })

@@ -1,0 +1,6 @@
+pub mod Places
+pub mod Steps
+pub mod Keeping
+pub mod Forking
+pub mod Lent
+pub mod Unloading

@@ -1,0 +1,99 @@
+-- What contracts see of the port, and the sight that it gives of the machine.
+use Rattle.std.specs.Prelude.{◌≡◌, ℕ, ⊤, true, Option, Some, None, List, [], ◌∷◌, ◌++◌, map}
+use Rattle.std.specs.List.{flat_map}
+use Rattle.pic_base.specs.declared.duty.Duty.{Duty}
+use Rattle.pic_base.specs.declared.duty.Duty.TheVariants.{Signal}
+use Rattle.pic_machine.specs.declared.entry.Call.{Call}
+use Rattle.pic_machine.specs.declared.entry.Call.TheVariants as call
+use Rattle.pic_machine.specs.declared.entry.Happened.{Happened}
+use Rattle.pic_machine.specs.declared.world.Start.{Start}
+use Rattle.pic_machine.specs.declared.entry.Reply.{Reply}
+use Rattle.pic_machine.specs.declared.entry.Reply.TheVariants as reply
+use Rattle.pic_machine.specs.declared.port.PortFault.{PortFault}
+use Rattle.pic_machine.specs.declared.port.PortFault.TheVariants.{Full, Again, Memory}
+use Rattle.pic_machine.specs.History.{Follows, event, origin_of}
+use Rattle.pic_machine.specs.Sight.{Carry, Owing, Sight, Walking, nothing}
+use Rattle.pic_machine.specs.Sight.Walking.{triggers}
+
+-- the start, main's body as it was given, the history so far, and the fiber whose body is out
+pub record Shown (B : Type 0) : Type 0 where
+  pub start : Start
+  pub main : B
+  pub front : List Happened
+  pub out : Option ℕ
+
+-- ---- duties
+
+-- the duties of a walk: to signal each of its triggers
+abbrev pub walked : Walking → List Duty
+walked (triggers numbers) = map Signal numbers
+
+abbrev pub first_duty : Option Duty → List Duty
+first_duty None = []
+first_duty (Some duty) = duty ∷ []
+
+-- a body's duties, one by one: its walks stand for themselves
+abbrev pub listed : Owing → List Duty
+listed owing = first_duty owing.first ++ flat_map walked owing.walks
+
+-- ---- the sight
+
+-- the port is alone, and nobody is ever in its way
+abbrev pub sight_of : {B S : Type 0} → (B → Carry S) → Shown B → Sight S
+sight_of seen port = record {
+  origin = origin_of port.start;
+  share = (seen port.main).share;
+  alone = true;
+  front = port.front;
+  out = port.out;
+  contention = 0;
+  duties = listed;
+}
+
+-- the same port, with one entry more
+abbrev pub with_entry : {B : Type 0} → Shown B → Happened → Shown B
+with_entry port h = record port { front = port.front ++ h ∷ [] }
+
+-- the calls that make no fiber
+abbrev pub MakesNoFiber : Call → Type 0
+MakesNoFiber (call.Fork text value) = ⊥
+MakesNoFiber _ = ⊤
+
+-- the calls that a body is lent for, and which make no fiber
+abbrev pub IsLent : Call → Type 0
+IsLent (call.Complete comp outcome) = ⊤
+IsLent (call.Peek comp) = ⊤
+IsLent (call.Say value) = ⊤
+IsLent _ = ⊥
+
+-- the calls with which a turn is over
+abbrev pub IsLast : Call → Type 0
+IsLast call.Yield = ⊤
+IsLast (call.End outcome) = ⊤
+IsLast _ = ⊥
+
+-- the number that a reply tells of
+abbrev pub made_of : Reply → Option ℕ
+made_of (reply.Made number) = Some number
+made_of _ = None
+
+-- a fork made no fiber: the entry says that there was no room for one, or memory was wanted
+abbrev pub NoFiber : {B : Type 0} → PortFault → Shown B → Shown B → ℕ → Call → Type 0
+NoFiber Full old new f call = (new ≡ with_entry old (event f call reply.Full)) × Follows (origin_of old.start) old.front (event f call reply.Full)
+NoFiber Again old new f call = ⊥
+NoFiber Memory old new f call = new ≡ old
+
+-- ---- what an opening needs
+
+-- a body that may become main's: it has main's birth, and nothing has happened to it
+pub record IsMain {B S : Type 0} (seen : B → Carry S) (fits : B → List Happened → Type 0) (start : Start) (body : B) : Type 0 where
+  pub unnumbered : (seen body).number ≡ None
+  pub birth : (seen body).birth ≡ (origin_of start).main
+  pub owes : (seen body).owes ≡ nothing
+  pub fitting : fits body []
+
+-- a body that may become the clock's
+pub record IsClock {B S : Type 0} (seen : B → Carry S) (fits : B → List Happened → Type 0) (body : B) : Type 0 where
+  pub unnumbered : (seen body).number ≡ None
+  pub owes : (seen body).owes ≡ nothing
+  pub fitting : fits body []

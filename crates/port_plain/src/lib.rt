@@ -1,0 +1,16 @@
+//! The machine on one thread: a port that is alone and stores the world, the whole history and each
+//! body that isn't out.
+//!
+//! It stands on `pic_base` and `pic_machine`. The layers above use `PlainPort`: the contract of `Port`,
+//! each clause of which it keeps, at the sight of `specs/Shown.antt` (it is alone, and nobody is ever in
+//! its way, so no call answers `Again`); `open`; `history`, which is the front itself; and `close`, which
+//! hands out each body as the history says that it is (`IsLeft` of `specs/Closing.antt`).
+#![tactic(auto)]
+
+mod plain;
+mod port;
+
+pub use plain::PlainPort;
+
+#[cfg(test)]
+mod tests;

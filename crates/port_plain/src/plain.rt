@@ -1,0 +1,74 @@
+ghost use Rattle.std.specs.Prelude.{◌≡◌, ◌↔◌, ◌∷◌, [], ◌++◌, None, Some, IfOk, IsTrue, OnErr, OnOk};
+ghost use Rattle.pic_machine.specs.State.{CanStart};
+ghost use Rattle.pic_machine.specs.Final.{IsFinal};
+ghost use Rattle.pic_machine.specs.Step.{IsLive};
+ghost use Rattle.pic_machine.specs.History.{IsLegal, origin_of, world};
+ghost use Rattle.port_plain.specs.Shown.{IsMain, IsClock};
+
+use pic_base::{FiberNo, Memory};
+use pic_machine::{Carried, Happened, Start, World};
+use std::alloc::Global;
+use std::marker::Model;
+use std::snapshot::Snapshot;
+
+mod keeping;
+mod lending;
+mod opening;
+pub(crate) mod reply;
+
+/// A port that is alone: it stores the world, the whole history, and each body that isn't out.
+/// Contracts see it as the `Shown` of `specs/Shown.antt`.
+#[derive(Drop)]
+pub struct PlainPort<B: Carried> {
+    alloc: Global,
+    start: Start,
+    main: Snapshot<B>,
+    world: World,
+    history: Vec<Happened>,
+    bodies: Vec<Option<B>>,
+    clock: B,
+    out: Option<FiberNo>,
+}
+
+impl<B: Carried> Model for PlainPort<B> {
+    ghost use Rattle.port_plain.specs.Shown.{Shown};
+    ghost use Rattle.port_plain.specs.Stored.{IsStored};
+
+    ghost Value = { Shown B };
+
+    ghost view = { λ port. record {
+      start = port.start;
+      main = port.main.value;
+      front = port.history.items;
+      out = port.out;
+    } };
+
+    ghost invariant = { λ port. IsStored B.seen B.fits
+        (record { start = port.start; main = port.main.value; front = port.history.items; out = port.out })
+        port.world port.bodies.items port.clock };
+}
+
+impl<B: Carried> PlainPort<B> {
+    /// What happened so far, the births of fibers beside the forks that made them.
+    pub fn history(&self) -> &[Happened]
+        ensures { result.now ≡ self.now.front }
+    {
+        self.history.as_slice()
+    }
+
+    /// Whether the fiber is live.
+    pub(crate) fn is_live(&self, fiber: FiberNo) -> bool
+        ensures legal { IsLegal (origin_of self.now.start) self.now.front }
+        ensures live { IsTrue result ↔ IsLive (world (origin_of self.now.start) self.now.front) fiber }
+    {
+        self.world.is_live(fiber)
+    }
+
+    /// Whether nothing is left to do.
+    pub(crate) fn is_final(&self) -> bool
+        ensures legal { IsLegal (origin_of self.now.start) self.now.front }
+        ensures done { IsTrue result ↔ IsFinal (world (origin_of self.now.start) self.now.front) }
+    {
+        self.world.is_final()
+    }
+}

@@ -1,0 +1,78 @@
+//! How a port begins, and what it leaves.
+ghost use Rattle.std.specs.Prelude.{◌≡◌, ◌≤◌, ◌∷◌, ℕ, [], Some, None, IfErr, IfOk, map, slice_get, vec_len, vec_capacity};
+ghost use Rattle.pic_machine.specs.State.{CanStart};
+ghost use Rattle.port_plain.specs.Closing.{IsLeft};
+ghost use Rattle.port_plain.specs.Shown.{IsClock, IsMain, sight_of};
+
+use super::PlainPort;
+use pic_base::Memory;
+use pic_machine::{Carried, Closed, Start, World};
+use std::alloc::Global;
+use std::snapshot::Snapshot;
+
+impl<B: Carried> PlainPort<B> {
+    /// The port before the first entry, with the bodies of main and of the clock at home.
+    pub fn open(alloc: Global, start: &Start, main: B, clock: B) -> Result<PlainPort<B>, Memory>
+        requires start { CanStart start.now }
+        requires main { IsMain B.seen B.fits start.now main }
+        requires clock { IsClock B.seen B.fits clock }
+        ensures { IfOk result (λ port.
+            port ≡ record { start = start.now; main = main; front = []; out = None }) }
+    {
+        let of_main = Snapshot::of(&main);
+        let (mut main, mut clock) = (main, clock);
+        main.number(1);
+        clock.number(0);
+        let mut bodies = Vec::with_capacity(alloc, 1)?;
+        bodies.push(Some(main))?;
+        Ok(PlainPort {
+            alloc,
+            start: *start,
+            main: of_main,
+            world: World::start(alloc, start)?,
+            history: Vec::new(alloc),
+            bodies,
+            clock,
+            out: None,
+        })
+    }
+
+    /// The bodies of all fibers, in order of their numbers, and the clock's.
+    pub fn close(self) -> Result<Closed<B>, PlainPort<B>>
+        requires { self.out ≡ None }
+        ensures left { IfOk result (IsLeft B.seen B.fits (sight_of B.seen self)) }
+        ensures err { IfErr result (λ port. port ≡ self) }
+    {
+        let mut bodies = Vec::new(self.alloc);
+        if bodies.reserve(self.bodies.len()).is_err() {
+            return Err(self);
+        }
+        let PlainPort {
+            bodies: places,
+            clock,
+            ..
+        } = self;
+        Ok(Closed {
+            bodies: all_there(places, bodies),
+            clock,
+            now: 0,
+        })
+    }
+}
+
+/// The bodies of places none of which is empty. There is room for them.
+fn all_there<B: Carried>(places: Vec<Option<B>>, room: Vec<B>) -> Vec<B>
+    requires none { (place : ℕ) → slice_get places.items place ≡ Some None → ⊥ }
+    requires empty { room.items ≡ [] }
+    requires room { vec_len places ≤ vec_capacity room }
+    ensures { map Some result.items ≡ places.items }
+{
+    let mut bodies = room;
+    for place in places {
+        match place {
+            Some(body) => bodies.push_reserved(body),
+            None => unreachable!("each body is there"),
+        }
+    }
+    bodies
+}

@@ -136,6 +136,7 @@ kept_same p legal = record { grown = record { others = []; none = λ alone. refl
 
 -- so is the body that was lent
 pub spared_same : {S : Type 0} (p : Sight S) (a : Carry S) → Holds p a → Spared p p a a
+unfolding kept_same
 spared_same p a holds = spared p p a a (kept_same p holds.legal) tt holds (record { birth = refl; number = refl; noted = refl; share = refl }) refl
 
 -- and so are both where memory was wanted

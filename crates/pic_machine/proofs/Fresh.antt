@@ -25,17 +25,19 @@ use Rattle.pic_machine.proofs.Standing.{birth_among-append, log-others, not_same
 abbrev pub IsFresh : State → ℕ → Type 0
 IsFresh w g = length w.fibers < g
 
-fibers_grow : (w : State) (hs : List Happened) → length w.fibers ≤ length (world_from w hs).fibers
+-- no history takes a fiber away
+pub fibers_grow : (w : State) (hs : List Happened) → length w.fibers ≤ length (world_from w hs).fibers
 fibers_grow w [] = omega arith
 fibers_grow w (h ∷ hs) = omega (arith, fibers_stay w h.entry.fiber h.entry.call, fibers_grow (after w h.entry.fiber h.entry.call) hs)
 
 -- a fiber that isn't made now wasn't before
-was_fresh : (origin : Origin) (hs more : List Happened) (g : ℕ) → IsFresh (world origin (hs ++ more)) g → IsFresh (world origin hs) g
+pub was_fresh : (origin : Origin) (hs more : List Happened) (g : ℕ) → IsFresh (world origin (hs ++ more)) g → IsFresh (world origin hs) g
 was_fresh origin hs more g fresh =
     let same : length (world origin (hs ++ more)).fibers ≡ length (world_from (world origin hs) more).fibers = ap (λ (w : State). length w.fibers) (world_from-append origin.world hs more) in
     omega (arith, same, fresh, fibers_grow (world origin hs) more)
 
-acts_made : (w : State) (f g : ℕ) → MayAct w f → IsFresh w g → f ≢ g
+-- whoever acts has been made
+pub acts_made : (w : State) (f g : ℕ) → MayAct w f → IsFresh w g → f ≢ g
 acts_made w f g (inl clock) fresh = λ same. absurd (omega (arith, clock, same, fresh))
 acts_made w f g (inr live) fresh = let within = slice_get_within w.fibers (f - 1) Live live.live in λ same. absurd (omega (arith, within, same, fresh, live.made))
 

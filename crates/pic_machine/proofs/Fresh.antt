@@ -1,9 +1,8 @@
 -- Of a fiber that isn't made yet there is nothing: no entry, no duty and no birth. So the body of a child
 -- fits its fiber's log as soon as a fork has made it.
-use Rattle.std.proofs.Common.{◌≡◌, ◌≢◌, ℕ, zero, suc, ◌+◌, ◌-◌, ◌<◌, ◌≤◌, ◌==◌, cond, inl, inr, Bool, true, false, Option, Some, None, List, [], ◌∷◌, ◌++◌, length, refl, sym, ap, subst, ◌∙◌, append_assoc, arith}
+use Rattle.std.proofs.Common.{◌≡◌, ◌≢◌, ℕ, ◌+◌, ◌-◌, ◌<◌, ◌≤◌, ◌==◌, inl, inr, Bool, true, false, Option, Some, None, List, [], ◌∷◌, ◌++◌, length, refl, sym, ap, subst, ◌∙◌, append_assoc, arith}
 use Rattle.std.proofs.lemmas.List.{length-append}
 use Rattle.std.proofs.lemmas.Option.{slice_get_within}
-use Rattle.std.proofs.lemmas.Bool.Decides.{nat_tests}
 use Rattle.pic_machine.specs.declared.birth.Birth.{Birth}
 use Rattle.pic_machine.specs.declared.state.CompState.{CompState}
 use Rattle.pic_machine.specs.declared.state.CompState.TheVariants.{Running, Done}
@@ -14,8 +13,8 @@ use Rattle.pic_machine.specs.declared.entry.Reply.{Reply}
 use Rattle.pic_machine.specs.declared.entry.Reply.TheVariants.{Plain, Full, Made, Completed, Peeked}
 use Rattle.pic_machine.specs.declared.entry.Happened.{Happened}
 use Rattle.pic_machine.specs.State.{State, owed_of}
-use Rattle.pic_machine.specs.Step.{MayAct, IsLive, after, completed, fork_reply, has_room, peeked, reply_of, with_fiber}
-use Rattle.pic_machine.specs.History.{Origin, Follows, IsLegal, birth_among, birth_at, birth_in, forked, made_birth, or_later, world, world_from}
+use Rattle.pic_machine.specs.Step.{MayAct, after, completed, fork_reply, has_room, peeked, reply_of}
+use Rattle.pic_machine.specs.History.{Origin, Follows, IsLegal, birth_among, birth_in, forked, made_birth, or_later, world, world_from}
 use Rattle.pic_machine.specs.Log.{Others, log}
 use Rattle.pic_machine.proofs.Histories.{world-push, world_from-append}
 use Rattle.pic_machine.proofs.Steps.{fibers_stay}

@@ -1,13 +1,12 @@
 -- How bodies come home, stay there and go out again.
-use Rattle.std.proofs.Common.{◌≡◌, ◌≢◌, ℕ, ◌+◌, ◌<◌, true, false, Option, Some, None, List, [], ◌∷◌, ◌++◌, length, refl, sym, ap, subst, ◌∙◌, append_assoc, append-nil, arith}
-use Rattle.pic_base.specs.declared.duty.Duty.{Duty}
+use Rattle.std.proofs.Common.{◌≡◌, ◌≢◌, ℕ, false, Option, Some, List, [], ◌∷◌, ◌++◌, sym, ap, subst, ◌∙◌, append_assoc}
 use Rattle.pic_machine.specs.declared.birth.Birth.{Birth}
 use Rattle.pic_machine.specs.declared.entry.Happened.{Happened}
 use Rattle.pic_machine.specs.State.{State, owed_of}
 use Rattle.pic_machine.specs.Step.{MayAct}
 use Rattle.pic_machine.specs.History.{Origin, IsLegal, birth_in, forked, world}
 use Rattle.pic_machine.specs.Log.{Others, is_turn, log, visible}
-use Rattle.pic_machine.specs.Sight.{Carry, Sight, Holds, Owing, fiber_of, nothing}
+use Rattle.pic_machine.specs.Sight.{Carry, Sight, Holds, Owing, fiber_of}
 use Rattle.pic_machine.specs.Home.{IsHome}
 use Rattle.pic_machine.specs.Lending.{Laid, Later, Made}
 use Rattle.pic_machine.proofs.Histories.{IsLegal-push}

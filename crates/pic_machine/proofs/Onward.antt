@@ -1,9 +1,6 @@
 -- How a port's call is shown to keep the contract: the front grew by what other ports made, and then by
 -- one entry that may follow.
-use Rattle.std.proofs.Common.{◌≡◌, ◌≢◌, ℕ, ◌+◌, ◌-◌, ◌^◌, ◌<◌, ◌≤◌, inl, inr, true, false, Option, Some, None, List, [], ◌∷◌, ◌++◌, refl, sym, ap, subst, ◌∙◌, append_assoc, append-nil, arith}
-use Rattle.pic_base.specs.declared.duty.Duty.{Duty}
-use Rattle.pic_machine.specs.declared.birth.Birth.{Birth}
-use Rattle.pic_machine.specs.declared.entry.Call.{Call}
+use Rattle.std.proofs.Common.{◌≡◌, ◌≢◌, ℕ, true, false, Option, Some, List, [], ◌∷◌, ◌++◌, refl, sym, ap, subst, ◌∙◌, append_assoc, append-nil, arith}
 use Rattle.pic_machine.specs.declared.entry.Entry.{Entry}
 use Rattle.pic_machine.specs.declared.entry.Happened.{Happened}
 use Rattle.pic_machine.specs.declared.port.PortFault.TheVariants.{Memory}
@@ -11,7 +8,7 @@ use Rattle.pic_machine.specs.State.{State, owed_of}
 use Rattle.pic_machine.specs.Step.{MayAct}
 use Rattle.pic_machine.specs.History.{Origin, Follows, IsLegal, birth_in, world}
 use Rattle.pic_machine.specs.Log.{Others, is_logged, is_turn, log, visible}
-use Rattle.pic_machine.specs.Sight.{Carry, Sight, Holds, IsSame, Notes, Owing, fiber_of}
+use Rattle.pic_machine.specs.Sight.{Carry, Sight, Holds, IsSame, fiber_of}
 use Rattle.pic_machine.specs.Lending.{Began, Kept, Later, Lent, Made, Refuses, Spared}
 use Rattle.pic_machine.proofs.Histories.{IsLegal-push, log-push_mine, visible-append}
 use Rattle.pic_machine.proofs.Standing.{acts_stays, birth_stays, log_stays, owed_stays, same_number}

@@ -1,17 +1,16 @@
 -- How a turn is put together, call by call, and how the turns of a port that is alone make the FIFO order.
-use Rattle.std.proofs.Common.{◌≡◌, ℕ, ◌+◌, ◌-◌, ◌^◌, ◌<◌, ◌≤◌, ◌⊎◌, inl, inr, true, false, Option, Some, None, List, [], ◌∷◌, ◌++◌, refl, sym, ap, subst, ◌∙◌, append_assoc, append-nil, arith}
-use Rattle.std.specs.List.{AllByRecursion, flat_map}
+use Rattle.std.proofs.Common.{◌≡◌, ℕ, ◌≤◌, inl, inr, true, false, Option, Some, None, List, [], ◌∷◌, ◌++◌, refl, sym, ap, subst, ◌∙◌, append_assoc, append-nil, arith}
+use Rattle.std.specs.List.{AllByRecursion}
 use Rattle.std.proofs.lemmas.Grind.{flat_map-append}
-use Rattle.pic_machine.specs.declared.entry.Call.{Call}
 use Rattle.pic_machine.specs.declared.entry.Call.TheVariants as call
 use Rattle.pic_machine.specs.declared.entry.Reply.TheVariants as reply
 use Rattle.pic_machine.specs.declared.entry.Happened.{Happened}
-use Rattle.pic_machine.specs.History.{IsLegal, event}
+use Rattle.pic_machine.specs.History.{event}
 use Rattle.pic_machine.specs.Log.{Others, is_turn, log}
-use Rattle.pic_machine.specs.Order.{GoesOn, InFifo, IsOwn, IsTurn, Stops, begin, readied, readied_by, stops, turn}
-use Rattle.pic_machine.specs.Sight.{Carry, Sight, Holds, IsSame, fiber_of}
-use Rattle.pic_machine.specs.Lending.{Began, Grown, Kept, Later, Lent, Made, Rose, Spared}
-use Rattle.pic_machine.specs.Turning.{Adds, EndsSo, Grew, Stopped, Went, YieldsSo}
+use Rattle.pic_machine.specs.Order.{GoesOn, InFifo, IsOwn, IsTurn, Stops, readied, readied_by, turn}
+use Rattle.pic_machine.specs.Sight.{Carry, Sight, Holds, fiber_of}
+use Rattle.pic_machine.specs.Lending.{Began, Grown, Later, Lent, Made, Rose, Spared}
+use Rattle.pic_machine.specs.Turning.{Adds, Grew, Stopped, Went}
 use Rattle.pic_machine.proofs.Onward.{log_made}
 use Rattle.pic_machine.proofs.Standing.{log_stays}
 

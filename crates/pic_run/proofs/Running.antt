@@ -15,7 +15,7 @@ use Rattle.pic_machine.specs.declared.state.CompState.{CompState}
 use Rattle.pic_machine.specs.declared.state.CompState.TheVariants.{Running, Done}
 use Rattle.pic_machine.specs.State.{State, owed_of}
 use Rattle.pic_machine.specs.Step.{Allowed, IsLive, MakesNoFiber, NamesStand, after, reply_of, completed, owing, peeked, with_outcome}
-use Rattle.pic_machine.specs.Duty.{ClockMakes, DutiesAllow, fulfilled, followed}
+use Rattle.pic_machine.specs.Duty.{DutiesAllow, fulfilled}
 use Rattle.pic_machine.specs.History.{BirthFits, event, origin_of}
 use Rattle.pic_machine.specs.Log.{is_turn}
 use Rattle.pic_machine.specs.Order.{stops}

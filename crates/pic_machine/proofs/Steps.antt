@@ -24,6 +24,11 @@ slice_get-set_other (y ∷ xs) zero (suc j) x other = refl
 slice_get-set_other (y ∷ xs) (suc i) zero x other = refl
 slice_get-set_other (y ∷ xs) (suc i) (suc j) x other = slice_get-set_other xs i j x (λ same. other (ap (λ (n : ℕ). suc n) same))
 
+pub slice_get-set_same : {A : Type 0} (xs : List A) (i : ℕ) (x : A) → i < length xs → slice_get (slice_set xs i x) i ≡ Some x
+slice_get-set_same [] i x within = absurd (omega arith)
+slice_get-set_same (y ∷ xs) zero x within = refl
+slice_get-set_same (y ∷ xs) (suc i) x within = slice_get-set_same xs i x (omega arith)
+
 pub slice_get-append_left : {A : Type 0} (xs ys : List A) (i : ℕ) (x : A) → slice_get xs i ≡ Some x → slice_get (xs ++ ys) i ≡ Some x
 slice_get-append_left [] ys i x is = absurd cc
 slice_get-append_left (y ∷ xs) ys zero x is = is

@@ -1,9 +1,8 @@
 -- Of a fiber that isn't made yet there is nothing: no entry, no duty and no birth. So the body of a child
 -- fits its fiber's log as soon as a fork has made it.
-use Rattle.std.proofs.Common.{◌≡◌, ◌≢◌, ℕ, zero, suc, ◌+◌, ◌-◌, ◌<◌, ◌≤◌, ◌==◌, cond, inl, inr, Bool, true, false, Option, Some, None, List, [], ◌∷◌, ◌++◌, length, refl, sym, ap, subst, ◌∙◌, append_assoc, arith}
+use Rattle.std.proofs.Common.{◌≡◌, ◌≢◌, ℕ, ◌+◌, ◌-◌, ◌<◌, ◌≤◌, ◌==◌, inl, inr, Bool, true, false, Option, Some, None, List, [], ◌∷◌, ◌++◌, length, refl, sym, ap, subst, ◌∙◌, append_assoc, arith}
 use Rattle.std.proofs.lemmas.List.{length-append}
 use Rattle.std.proofs.lemmas.Option.{slice_get_within}
-use Rattle.std.proofs.lemmas.Bool.Decides.{nat_tests}
 use Rattle.pic_machine.specs.declared.birth.Birth.{Birth}
 use Rattle.pic_machine.specs.declared.state.CompState.{CompState}
 use Rattle.pic_machine.specs.declared.state.CompState.TheVariants.{Running, Done}
@@ -14,8 +13,8 @@ use Rattle.pic_machine.specs.declared.entry.Reply.{Reply}
 use Rattle.pic_machine.specs.declared.entry.Reply.TheVariants.{Plain, Full, Made, Completed, Peeked}
 use Rattle.pic_machine.specs.declared.entry.Happened.{Happened}
 use Rattle.pic_machine.specs.State.{State, owed_of}
-use Rattle.pic_machine.specs.Step.{MayAct, IsLive, after, completed, fork_reply, has_room, peeked, reply_of, with_fiber}
-use Rattle.pic_machine.specs.History.{Origin, Follows, IsLegal, birth_among, birth_at, birth_in, forked, made_birth, or_later, world, world_from}
+use Rattle.pic_machine.specs.Step.{MayAct, after, completed, fork_reply, has_room, peeked, reply_of}
+use Rattle.pic_machine.specs.History.{Origin, Follows, IsLegal, birth_among, birth_in, forked, made_birth, or_later, world, world_from}
 use Rattle.pic_machine.specs.Log.{Others, log}
 use Rattle.pic_machine.proofs.Histories.{world-push, world_from-append}
 use Rattle.pic_machine.proofs.Steps.{fibers_stay}
@@ -25,17 +24,19 @@ use Rattle.pic_machine.proofs.Standing.{birth_among-append, log-others, not_same
 abbrev pub IsFresh : State → ℕ → Type 0
 IsFresh w g = length w.fibers < g
 
-fibers_grow : (w : State) (hs : List Happened) → length w.fibers ≤ length (world_from w hs).fibers
+-- no history takes a fiber away
+pub fibers_grow : (w : State) (hs : List Happened) → length w.fibers ≤ length (world_from w hs).fibers
 fibers_grow w [] = omega arith
 fibers_grow w (h ∷ hs) = omega (arith, fibers_stay w h.entry.fiber h.entry.call, fibers_grow (after w h.entry.fiber h.entry.call) hs)
 
 -- a fiber that isn't made now wasn't before
-was_fresh : (origin : Origin) (hs more : List Happened) (g : ℕ) → IsFresh (world origin (hs ++ more)) g → IsFresh (world origin hs) g
+pub was_fresh : (origin : Origin) (hs more : List Happened) (g : ℕ) → IsFresh (world origin (hs ++ more)) g → IsFresh (world origin hs) g
 was_fresh origin hs more g fresh =
     let same : length (world origin (hs ++ more)).fibers ≡ length (world_from (world origin hs) more).fibers = ap (λ (w : State). length w.fibers) (world_from-append origin.world hs more) in
     omega (arith, same, fresh, fibers_grow (world origin hs) more)
 
-acts_made : (w : State) (f g : ℕ) → MayAct w f → IsFresh w g → f ≢ g
+-- whoever acts has been made
+pub acts_made : (w : State) (f g : ℕ) → MayAct w f → IsFresh w g → f ≢ g
 acts_made w f g (inl clock) fresh = λ same. absurd (omega (arith, clock, same, fresh))
 acts_made w f g (inr live) fresh = let within = slice_get_within w.fibers (f - 1) Live live.live in λ same. absurd (omega (arith, within, same, fresh, live.made))
 

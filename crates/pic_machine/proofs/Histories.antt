@@ -1,11 +1,14 @@
 -- How histories grow: by one entry at the end. Every port and runner of the machine stands on these laws.
-use Rattle.std.proofs.Common.{◌≡◌, ℕ, true, false, List, [], ◌∷◌, ◌++◌, refl, ap, subst, ◌∙◌, append_assoc, append-nil, filter, map}
+use Rattle.std.proofs.Common.{◌≡◌, ℕ, true, false, None, List, [], ◌∷◌, ◌++◌, refl, ap, subst, ◌∙◌, append_assoc, append-nil, filter, map}
 use Rattle.std.proofs.lemmas.List.{map-append}
 use Rattle.std.proofs.lemmas.List.Elements.{filter-append}
+use Rattle.pic_machine.specs.declared.entry.Call.{Call}
+use Rattle.pic_machine.specs.declared.entry.Call.TheVariants as call
+use Rattle.pic_machine.specs.declared.entry.Reply.{Reply}
 use Rattle.pic_machine.specs.declared.entry.Happened.{Happened}
 use Rattle.pic_machine.specs.State.{State}
-use Rattle.pic_machine.specs.Step.{after}
-use Rattle.pic_machine.specs.History.{Origin, world_from, world, Follows, IsLegal}
+use Rattle.pic_machine.specs.Step.{MakesNoFiber, after}
+use Rattle.pic_machine.specs.History.{BirthFits, Origin, world_from, world, Follows, IsLegal}
 use Rattle.pic_machine.specs.Log.{is_logged, is_visible, log, visible}
 
 -- the world after one more entry is the step from the world before it
@@ -47,6 +50,16 @@ at_push P (x ∷ hs) last each here (y ∷ front) back h is =
 -- a legal history, and an entry that may follow it
 pub IsLegal-push : (origin : Origin) (hs : List Happened) (h : Happened) → IsLegal origin hs → Follows origin hs h → IsLegal origin (hs ++ h ∷ [])
 IsLegal-push origin hs h legal follows = record { each = at_push (Follows origin) hs h legal.each follows }
+
+-- beside a call that makes no fiber stands no birth
+pub BirthFits-none : (w : State) (c : Call) (reply : Reply) → MakesNoFiber c → BirthFits w c reply None
+BirthFits-none w call.Turn reply none = refl
+BirthFits-none w call.Yield reply none = refl
+BirthFits-none w (call.Complete k o) reply none = refl
+BirthFits-none w (call.Peek k) reply none = refl
+BirthFits-none w (call.Fork text value) reply none = absurd none
+BirthFits-none w (call.Say v) reply none = refl
+BirthFits-none w (call.End o) reply none = refl
 
 -- the front of a legal history is legal
 pub IsLegal-front : (origin : Origin) (hs more : List Happened) → IsLegal origin (hs ++ more) → IsLegal origin hs

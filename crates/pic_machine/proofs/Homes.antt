@@ -1,20 +1,18 @@
 -- How bodies come home, stay there and go out again.
-use Rattle.std.proofs.Common.{◌≡◌, ◌≢◌, ℕ, ◌+◌, ◌<◌, true, false, Option, Some, None, List, [], ◌∷◌, ◌++◌, length, refl, sym, ap, subst, ◌∙◌, append_assoc, append-nil, arith}
-use Rattle.pic_base.specs.declared.duty.Duty.{Duty}
+use Rattle.std.proofs.Common.{◌≡◌, ◌≢◌, ℕ, false, Option, Some, List, [], ◌∷◌, ◌++◌, sym, ap, subst, ◌∙◌, append_assoc}
 use Rattle.pic_machine.specs.declared.birth.Birth.{Birth}
 use Rattle.pic_machine.specs.declared.entry.Happened.{Happened}
 use Rattle.pic_machine.specs.State.{State, owed_of}
 use Rattle.pic_machine.specs.Step.{MayAct}
 use Rattle.pic_machine.specs.History.{Origin, IsLegal, birth_in, forked, world}
 use Rattle.pic_machine.specs.Log.{Others, is_turn, log, visible}
-use Rattle.pic_machine.specs.Sight.{Carry, Sight, Holds, Owing, fiber_of, nothing}
+use Rattle.pic_machine.specs.Sight.{Carry, Sight, Holds, Owing, fiber_of}
 use Rattle.pic_machine.specs.Home.{IsHome}
 use Rattle.pic_machine.specs.Lending.{Laid, Later, Made}
-use Rattle.pic_machine.proofs.Histories.{IsLegal-front, log-append, world-push}
-use Rattle.pic_machine.proofs.Steps.{owed_after}
+use Rattle.pic_machine.proofs.Histories.{IsLegal-push}
 use Rattle.pic_machine.proofs.Standing.{birth_stays, log_stays, owed_stays}
 use Rattle.pic_machine.proofs.Fresh.{IsFresh, birth_made, no_duty, no_log}
-use Rattle.pic_machine.proofs.Onward.{log_made}
+use Rattle.pic_machine.proofs.Onward.{Onward, log_made}
 
 module _ {B S : Type 0} (seen : B → Carry S) (fits : B → List Happened → Type 0) where
   -- a body stays at home while others act
@@ -71,24 +69,20 @@ module _ {B S : Type 0} (seen : B → Carry S) (fits : B → List Happened → T
       (record { number = holds.number; fitting = fitting; owes = holds.owes; birth = holds.birth; share = holds.share })
 
   -- the child of a fork is at home once it has its number: the fork is the first that there is of it
-  pub child_home : (p q : Sight S) (f g : ℕ) (birth : Birth) (body : B) → Made p q (forked f g birth) → (made_legal : (others : List Happened) → q.front ≡ (p.front ++ others) ++ forked f g birth ∷ [] → IsFresh (world p.origin (p.front ++ others)) g)
+  pub child_home : (p q : Sight S) (others : List Happened) (f g : ℕ) (birth : Birth) (body : B) → Onward p q others (forked f g birth) → IsFresh (world p.origin (p.front ++ others)) g
       → g ≢ 1 → g ≢ f → owed_of p.origin.world g ≡ [] → (seen body).number ≡ Some g → (seen body).birth ≡ birth → (seen body).share ≡ p.share → q.duties (seen body).owes ≡ [] → fits body [] → IsHome seen fits q g body
-  child_home p q f g birth body made fresh not_main not_mine none number born share owes fitting =
-      let others = made.others in
+  child_home p q others f g birth body on new not_main not_mine none number born share owes fitting =
       let h = forked f g birth in
-      let front : q.front ≡ (p.front ++ others) ++ h ∷ [] = made.later.front ∙ sym (append_assoc p.front others (h ∷ [])) in
-      let whole : IsLegal p.origin ((p.front ++ others) ++ h ∷ []) = subst (IsLegal p.origin) front (subst (λ (o : Origin). IsLegal o q.front) made.later.origin made.legal) in
-      let legal : IsLegal p.origin (p.front ++ others) = IsLegal-front p.origin (p.front ++ others) (h ∷ []) whole in
-      let new : IsFresh (world p.origin (p.front ++ others)) g = fresh others front in
+      let whole : IsLegal p.origin ((p.front ++ others) ++ h ∷ []) = IsLegal-push p.origin (p.front ++ others) h on.legal on.follows in
       let apart : Others g (h ∷ []) = (λ same. not_mine (sym same), tt) in
-      let logs : log q.front g ≡ [] = ap (λ (zs : List Happened). log zs g) front ∙ (log_stays (p.front ++ others) (h ∷ []) g apart ∙ no_log p.origin (p.front ++ others) g legal new) in
+      let logs : log q.front g ≡ [] = ap (λ (zs : List Happened). log zs g) on.front ∙ (log_stays (p.front ++ others) (h ∷ []) g apart ∙ no_log p.origin (p.front ++ others) g on.legal new) in
       let owed : owed_of (world q.origin q.front) g ≡ [] =
-      ap (λ (o : Origin). owed_of (world o q.front) g) made.later.origin ∙ (ap (λ (zs : List Happened). owed_of (world p.origin zs) g) front
-      ∙ (owed_stays p.origin (p.front ++ others) (h ∷ []) g whole apart ∙ no_duty p.origin (p.front ++ others) g legal new none)) in
+      ap (λ (o : Origin). owed_of (world o q.front) g) on.origin ∙ (ap (λ (zs : List Happened). owed_of (world p.origin zs) g) on.front
+      ∙ (owed_stays p.origin (p.front ++ others) (h ∷ []) g whole apart ∙ no_duty p.origin (p.front ++ others) g on.legal new none)) in
       record {
         number = number;
         fitting = subst (fits body) (sym logs) fitting;
         owes = owes ∙ sym owed;
-        birth = λ fiber. ap (λ (o : Origin). birth_in o q.front g) made.later.origin ∙ (ap (λ (zs : List Happened). birth_in p.origin zs g) front ∙ (birth_made p.origin (p.front ++ others) f g birth legal new not_main ∙ ap Some (sym born)));
-        share = λ fiber. share ∙ sym made.later.share;
+        birth = λ fiber. ap (λ (o : Origin). birth_in o q.front g) on.origin ∙ (ap (λ (zs : List Happened). birth_in p.origin zs g) on.front ∙ (birth_made p.origin (p.front ++ others) f g birth on.legal new not_main ∙ ap Some (sym born)));
+        share = λ fiber. share ∙ sym on.share;
       }

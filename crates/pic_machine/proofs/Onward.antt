@@ -1,17 +1,15 @@
 -- How a port's call is shown to keep the contract: the front grew by what other ports made, and then by
 -- one entry that may follow.
-use Rattle.std.proofs.Common.{◌≡◌, ◌≢◌, ℕ, ◌+◌, ◌-◌, ◌^◌, ◌<◌, ◌≤◌, inl, inr, true, false, Option, Some, None, List, [], ◌∷◌, ◌++◌, refl, sym, ap, subst, ◌∙◌, append_assoc, append-nil, arith}
-use Rattle.pic_base.specs.declared.duty.Duty.{Duty}
-use Rattle.pic_machine.specs.declared.birth.Birth.{Birth}
-use Rattle.pic_machine.specs.declared.entry.Call.{Call}
+use Rattle.std.proofs.Common.{◌≡◌, ◌≢◌, ℕ, true, false, Option, Some, List, [], ◌∷◌, ◌++◌, refl, sym, ap, subst, ◌∙◌, append_assoc, append-nil, arith}
 use Rattle.pic_machine.specs.declared.entry.Entry.{Entry}
 use Rattle.pic_machine.specs.declared.entry.Happened.{Happened}
+use Rattle.pic_machine.specs.declared.port.PortFault.TheVariants.{Memory}
 use Rattle.pic_machine.specs.State.{State, owed_of}
 use Rattle.pic_machine.specs.Step.{MayAct}
 use Rattle.pic_machine.specs.History.{Origin, Follows, IsLegal, birth_in, world}
 use Rattle.pic_machine.specs.Log.{Others, is_logged, is_turn, log, visible}
-use Rattle.pic_machine.specs.Sight.{Carry, Sight, Holds, IsSame, Notes, Owing, fiber_of}
-use Rattle.pic_machine.specs.Lending.{Began, Grown, Kept, Laid, Later, Lent, Made, Spared}
+use Rattle.pic_machine.specs.Sight.{Carry, Sight, Holds, IsSame, fiber_of}
+use Rattle.pic_machine.specs.Lending.{Began, Kept, Later, Lent, Made, Refuses, Spared}
 use Rattle.pic_machine.proofs.Histories.{IsLegal-push, log-push_mine, visible-append}
 use Rattle.pic_machine.proofs.Standing.{acts_stays, birth_stays, log_stays, owed_stays, same_number}
 
@@ -123,3 +121,21 @@ module _ {S : Type 0} (old new : Sight S) (before now : Carry S) where
         };
         same = same;
       }
+
+-- ---- a call that changed nothing
+
+later_same : {S : Type 0} (p : Sight S) → Later p p []
+later_same p = record { origin = refl; share = refl; alone = refl; front = sym (append-nil p.front); steady = omega arith }
+
+-- the port is as it was
+pub kept_same : {S : Type 0} (p : Sight S) → IsLegal p.origin p.front → Kept p p
+kept_same p legal = record { grown = record { others = []; none = λ alone. refl; later = later_same p; legal = legal }; out = refl }
+
+-- so is the body that was lent
+pub spared_same : {S : Type 0} (p : Sight S) (a : Carry S) → Holds p a → Spared p p a a
+unfolding kept_same
+spared_same p a holds = spared p p a a (kept_same p holds.legal) tt holds (record { birth = refl; number = refl; noted = refl; share = refl }) refl
+
+-- and so are both where memory was wanted
+pub refuses_memory : {S : Type 0} (p : Sight S) (a : Carry S) → Holds p a → Refuses Memory p p a a
+refuses_memory p a holds = (spared_same p a holds, refl)

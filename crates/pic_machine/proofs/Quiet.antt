@@ -1,5 +1,5 @@
 -- While no call makes a duty, nobody owes anything. These laws stand until a call does.
-use Rattle.std.proofs.Common.{◌≡◌, ℕ, zero, suc, ◌+◌, ◌<◌, Bool, true, false, if◌then◌else◌, List, [], ◌∷◌, ◌++◌, length, replicate, slice_index_or, slice_get, slice_set, Option, Some, None, refl, sym, ap, subst, ◌∙◌, arith}
+use Rattle.std.proofs.Common.{◌≡◌, ℕ, zero, suc, ◌+◌, ◌<◌, Bool, true, false, List, [], ◌∷◌, replicate, slice_index_or, slice_get, slice_set, Option, Some, None, refl, ap, subst}
 use Rattle.std.specs.Prelude.{All}
 use Rattle.std.proofs.lemmas.List.{get_or-replicate, length-replicate, replicate_more}
 use Rattle.pic_base.specs.declared.duty.Duty.{Duty}
@@ -13,7 +13,7 @@ use Rattle.pic_machine.specs.declared.world.Start.{Start}
 use Rattle.pic_machine.specs.State.{State, owed_of, world_at}
 use Rattle.pic_machine.specs.Duty.{fulfilled, followed}
 use Rattle.pic_machine.specs.Step.{after, has_room, owing, with_fiber, with_outcome}
-use Rattle.pic_machine.specs.History.{Origin, origin_of, world_from, world}
+use Rattle.pic_machine.specs.History.{Origin, world_from, world}
 
 -- so many fibers, none of which owes anything
 abbrev pub none_owe : ℕ → List (List Duty)

@@ -1,12 +1,11 @@
 -- What stands of a fiber while others act: what it may make, what it owes, its log and its birth.
-use Rattle.std.proofs.Common.{◌≡◌, ◌≢◌, ℕ, zero, suc, ◌==◌, cond, Bool, true, false, Option, Some, None, List, [], ◌∷◌, ◌++◌, refl, sym, ap, subst, ◌∙◌, append_assoc, append-nil, arith}
+use Rattle.std.proofs.Common.{◌≡◌, ◌≢◌, ℕ, ◌==◌, cond, Bool, true, false, Option, Some, None, List, [], ◌∷◌, ◌++◌, refl, sym, ap, subst, ◌∙◌, append_assoc, append-nil, arith}
 use Rattle.std.proofs.lemmas.Bool.Decides.{nat_tests}
-use Rattle.pic_base.specs.declared.duty.Duty.{Duty}
 use Rattle.pic_machine.specs.declared.birth.Birth.{Birth}
 use Rattle.pic_machine.specs.declared.entry.Call.{Call}
 use Rattle.pic_machine.specs.declared.entry.Happened.{Happened}
 use Rattle.pic_machine.specs.State.{State, owed_of}
-use Rattle.pic_machine.specs.Step.{Allowed, MayAct, after}
+use Rattle.pic_machine.specs.Step.{Allowed, MayAct}
 use Rattle.pic_machine.specs.History.{Origin, Follows, IsLegal, MayMake, birth_among, birth_at, birth_in, or_later, world}
 use Rattle.pic_machine.specs.Log.{Others, is_logged, log}
 use Rattle.pic_machine.proofs.Histories.{log-append, world-push}

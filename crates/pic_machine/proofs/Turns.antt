@@ -1,17 +1,18 @@
 -- How a turn is put together, call by call, and how the turns of a port that is alone make the FIFO order.
-use Rattle.std.proofs.Common.{◌≡◌, ℕ, ◌+◌, ◌-◌, ◌^◌, ◌<◌, ◌≤◌, ◌⊎◌, inl, inr, true, false, Option, Some, None, List, [], ◌∷◌, ◌++◌, refl, sym, ap, subst, ◌∙◌, append_assoc, append-nil, arith}
-use Rattle.std.specs.List.{AllByRecursion, flat_map}
+use Rattle.std.proofs.Common.{◌≡◌, ◌⊎◌, ℕ, ◌≤◌, inl, inr, true, false, Option, Some, None, List, [], ◌∷◌, ◌++◌, refl, sym, ap, subst, ◌∙◌, append_assoc, append-nil, arith}
+use Rattle.std.specs.List.{AllByRecursion}
 use Rattle.std.proofs.lemmas.Grind.{flat_map-append}
-use Rattle.pic_machine.specs.declared.entry.Call.{Call}
 use Rattle.pic_machine.specs.declared.entry.Call.TheVariants as call
 use Rattle.pic_machine.specs.declared.entry.Reply.TheVariants as reply
 use Rattle.pic_machine.specs.declared.entry.Happened.{Happened}
-use Rattle.pic_machine.specs.History.{IsLegal, event}
+use Rattle.pic_machine.specs.History.{event}
 use Rattle.pic_machine.specs.Log.{Others, is_turn, log}
-use Rattle.pic_machine.specs.Order.{GoesOn, InFifo, IsOwn, IsTurn, Stops, begin, readied, readied_by, stops, turn}
-use Rattle.pic_machine.specs.Sight.{Carry, Sight, Holds, IsSame, fiber_of}
-use Rattle.pic_machine.specs.Lending.{Began, Grown, Kept, Later, Lent, Made, Rose, Spared}
-use Rattle.pic_machine.specs.Turning.{Adds, EndsSo, Grew, Stopped, Went, YieldsSo}
+use Rattle.pic_machine.specs.Order.{GoesOn, InFifo, IsOwn, IsTurn, Stops, readied, readied_by, turn}
+use Rattle.pic_machine.specs.Sight.{Carry, Sight, Holds, fiber_of}
+use Rattle.pic_machine.specs.Lending.{Began, Grown, Later, Lent, Made, Rose, Spared}
+use Rattle.pic_machine.specs.declared.poller.Turn.{Turn}
+use Rattle.pic_machine.specs.declared.poller.Turn.TheVariants.{Ended, Yielded}
+use Rattle.pic_machine.specs.Turning.{Adds, EndsSo, Grew, Polled, Stopped, Went, YieldsSo}
 use Rattle.pic_machine.proofs.Onward.{log_made}
 use Rattle.pic_machine.proofs.Standing.{log_stays}
 
@@ -171,3 +172,20 @@ turn_in_order p q r f ready line How alone fifo began stopped =
     let lines : line ≡ ready ++ readied own = stopped.line.2 ∙ ap (λ (w : List ℕ). w ++ readied own) (sym same) in
     subst (λ (zs : List Happened). InFifo zs line) (sym front)
     (subst (λ (w : List ℕ). InFifo (p.front ++ event f call.Turn reply.Plain ∷ own) w) (sym lines) (turn own fifo is))
+
+-- whichever way the poll of a claimed fiber says that the turn is over
+pub polled_in_order : {B S : Type 0} (ended : Turn B) (seen : B → Carry S) (fits : B → List Happened → Type 0) (p q r : Sight S) (a : Carry S) (f : ℕ) (before now : Option (List ℕ)) (ready line : List ℕ)
+    → Polled ended seen fits q r a before now → (ended ≡ Ended) ⊎ (ended ≡ Yielded) → fiber_of a ≡ f → before ≡ Some ready → now ≡ Some line
+    → p.alone ≡ true → InFifo p.front (f ∷ ready) → Began p q (event f call.Turn reply.Plain) → InFifo r.front line
+polled_in_order {B} {S} ended seen fits p q r a f before now ready line polled (inl is) same told_before told_now alone fifo began =
+    let here : Polled Ended seen fits q r a before now = subst (λ (t : Turn B). Polled t seen fits q r a before now) is polled in
+    turn_in_order p q r f ready line (λ h. EndsSo h.entry.call) alone fifo began
+    (subst (λ (g : ℕ). Stopped q r g (Some ready) (Some line) (λ h. EndsSo h.entry.call)) same
+    (subst (λ (o : Option (List ℕ)). Stopped q r (fiber_of a) (Some ready) o (λ h. EndsSo h.entry.call)) told_now
+    (subst (λ (o : Option (List ℕ)). Stopped q r (fiber_of a) o now (λ h. EndsSo h.entry.call)) told_before here)))
+polled_in_order {B} {S} ended seen fits p q r a f before now ready line polled (inr is) same told_before told_now alone fifo began =
+    let here : Polled Yielded seen fits q r a before now = subst (λ (t : Turn B). Polled t seen fits q r a before now) is polled in
+    turn_in_order p q r f ready line (λ h. YieldsSo h.entry.call) alone fifo began
+    (subst (λ (g : ℕ). Stopped q r g (Some ready) (Some line) (λ h. YieldsSo h.entry.call)) same
+    (subst (λ (o : Option (List ℕ)). Stopped q r (fiber_of a) (Some ready) o (λ h. YieldsSo h.entry.call)) told_now
+    (subst (λ (o : Option (List ℕ)). Stopped q r (fiber_of a) o now (λ h. YieldsSo h.entry.call)) told_before here)))

@@ -6,7 +6,7 @@ use Rattle.pic_machine.specs.declared.state.CompState.{CompState}
 use Rattle.pic_machine.specs.declared.state.CompState.TheVariants.{Running, Done}
 use Rattle.pic_machine.specs.declared.state.FiberState.TheVariants.{Live, Ended}
 use Rattle.pic_machine.specs.declared.entry.Call.{Call}
-use Rattle.pic_machine.specs.declared.entry.Call.TheVariants.{Turn, Yield, Complete, Peek, Fork, Say, End}
+use Rattle.pic_machine.specs.declared.entry.Call.TheVariants.{Complete, Peek, Fork, End}
 use Rattle.pic_machine.specs.declared.entry.Reply.{Reply}
 use Rattle.pic_machine.specs.declared.entry.Reply.TheVariants.{Plain, Full, Made, Completed, Peeked}
 use Rattle.pic_machine.specs.declared.entry.CompleteReply.TheVariants.{Won, Lost}

@@ -15,11 +15,11 @@ use Rattle.pic_machine.specs.declared.state.CompState.{CompState}
 use Rattle.pic_machine.specs.declared.state.CompState.TheVariants.{Running, Done}
 use Rattle.pic_machine.specs.State.{State, owed_of}
 use Rattle.pic_machine.specs.Step.{Allowed, IsLive, MakesNoFiber, NamesStand, after, reply_of, completed, owing, peeked, with_outcome}
-use Rattle.pic_machine.specs.Duty.{ClockMakes, DutiesAllow, fulfilled, followed}
-use Rattle.pic_machine.specs.History.{BirthFits, event, origin_of}
+use Rattle.pic_machine.specs.Duty.{DutiesAllow, fulfilled}
+use Rattle.pic_machine.specs.History.{event, origin_of}
 use Rattle.pic_machine.specs.Log.{is_turn}
 use Rattle.pic_machine.specs.Order.{stops}
-use Rattle.pic_machine.proofs.Histories.{IsLegal-push, world-push}
+use Rattle.pic_machine.proofs.Histories.{BirthFits-none, IsLegal-push, world-push}
 use Rattle.pic_machine.proofs.Quiet.{IsQuiet-owed, IsQuiet-start, IsQuiet-world}
 use Rattle.script_tree.specs.declared.program.Operand.{Operand}
 use Rattle.script_tree.specs.declared.program.CompRef.{CompRef}
@@ -54,22 +54,12 @@ pub kept_may : (past now : Past) (w : State) (f : ℕ) (c : Call) → past ≡ n
 kept_may past now w f c is kept live names =
     subst (λ (v : State). Allowed v f c) (ap world_of (sym is) ∙ sym kept.now) (may now f c live names)
 
--- beside a call that makes no fiber stands no birth
-no_birth : (w : State) (c : Call) (reply : Reply) → MakesNoFiber c → BirthFits w c reply None
-no_birth w call.Turn reply none = refl
-no_birth w call.Yield reply none = refl
-no_birth w (call.Complete k o) reply none = refl
-no_birth w (call.Peek k) reply none = refl
-no_birth w (call.Fork text value) reply none = absurd none
-no_birth w (call.Say v) reply none = refl
-no_birth w (call.End o) reply none = refl
-
 pub kept-push : (past : Past) (w now : State) (f : ℕ) (c : Call) (reply : Reply) → IsKept past w → Allowed w f c → MakesNoFiber c → reply ≡ reply_of w f c → now ≡ after w f c → IsKept (longer past (event f c reply)) now
 kept-push past w now f c reply kept allowed none answers step = record {
   legal = IsLegal-push (origin_of past.start) past.history (event f c reply) kept.legal (record {
     may = record { allowed = subst (λ (v : State). Allowed v f c) kept.now allowed };
     reply = answers ∙ ap (λ (v : State). reply_of v f c) kept.now;
-    birth = no_birth (world_of past) c reply none;
+    birth = BirthFits-none (world_of past) c reply none;
   });
   now = step ∙ (ap (λ (v : State). after v f c) kept.now ∙ sym (world-push (origin_of past.start) past.history (event f c reply)));
 }

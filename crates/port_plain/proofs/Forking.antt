@@ -13,15 +13,16 @@ use Rattle.pic_machine.specs.Step.{fork_reply, has_room, with_fiber}
 use Rattle.pic_machine.specs.History.{Follows, IsLegal, MayMake, event, forked, origin_of, world}
 use Rattle.pic_machine.specs.Sight.{Carry, IsChild}
 use Rattle.pic_machine.specs.Home.{IsHome}
-use Rattle.pic_machine.specs.Lending as lending
 use Rattle.pic_machine.proofs.Fresh.{IsFresh}
 use Rattle.pic_machine.proofs.Histories.{IsLegal-push, world-push}
 use Rattle.pic_machine.proofs.Homes.{child_home}
 use Rattle.pic_machine.proofs.Quiet.{IsQuiet-owed, IsQuiet-start}
+use Rattle.pic_machine.proofs.Steps.{slice_get-append_left}
 use Rattle.port_plain.specs.Shown.{Shown, listed, made_of, sight_of, with_entry}
 use Rattle.port_plain.specs.Stored.{IsStored}
-use Rattle.port_plain.proofs.Places.{get-append_left, get-pushed}
-use Rattle.port_plain.proofs.Keeping.{elsewhere, entry_stored, later, still_home, stored_seen, world_seen}
+use Rattle.port_plain.proofs.Places.{get-pushed}
+use Rattle.port_plain.proofs.Keeping.{elsewhere, entry_stored, still_home, stored_seen, world_seen}
+use Rattle.port_plain.proofs.Lent.{onward}
 
 -- ---- what the reply tells
 
@@ -56,9 +57,6 @@ no_room_many w room = rw room refl
 
 room_many : (w : State) → has_room w ≡ true → length (with_fiber w).fibers ≡ length w.fibers + 1
 room_many w room = rw room (length-append w.fibers (Live ∷ []))
-
-none_more : (xs ys : List Happened) (h : Happened) (more : List Happened) → ys ≡ (xs ++ more) ++ h ∷ [] → length ys ≡ length xs + 1 → length more ≡ 0
-none_more xs ys h more is one = omega (arith, ap (λ (zs : List Happened). length zs) is, one, length-append (xs ++ more) (h ∷ []), length-append xs more)
 
 module _ {B S : Type 0} (seen : B → Carry S) (fits : B → List Happened → Type 0) where
   module _ (port now : Shown B) (w : State) (bodies : List (Option B)) (ticking : B) (same : port ≡ now) (stored : IsStored seen fits port w bodies ticking) (f text value : ℕ) (may : MayMake (origin_of now.start) now.front f (Fork text value))
@@ -122,19 +120,13 @@ module _ {B S : Type 0} (seen : B → Carry S) (fits : B → List Happened → T
       not_mine : n ≢ f
       not_mine = λ equal. absurd (omega (arith, equal, place_is, slice_get_within bodies (f - 1) None (before.away f out).place, (before.away f out).made))
 
-      front_made : lending.Made (sight_of seen now) (sight_of seen (with_entry now h)) h
-      front_made = record { others = []; none = λ alone. refl; not_mine = tt; later = later seen fits now h; legal = legal; calm = refl }
-
-      fresh_there : (others : List Happened) → now.front ++ h ∷ [] ≡ (now.front ++ others) ++ h ∷ [] → IsFresh (world (origin_of now.start) (now.front ++ others)) n
-      fresh_there others front = none_there others (none_more now.front (now.front ++ h ∷ []) h others front (length-append now.front (h ∷ []))) where
-        none_there : (others : List Happened) → length others ≡ 0 → IsFresh (world (origin_of now.start) (now.front ++ others)) n
-        none_there [] empty = rw (append-nil now.front, here, next.number) (omega arith)
-        none_there (x ∷ xs) empty = absurd (omega (arith, empty))
+      fresh_there : IsFresh (world (origin_of now.start) (now.front ++ [])) n
+      fresh_there = rw (append-nil now.front, here, next.number) (omega arith)
 
       module _ (number : (seen numbered).number ≡ Some n) (born : (seen numbered).birth ≡ (seen child).birth) (share : (seen numbered).share ≡ (seen child).share) (owes : (seen numbered).owes ≡ (seen child).owes) (fitting : fits numbered []) where
         child_there : IsHome seen fits (sight_of seen (with_entry now h)) n numbered
         child_there =
-            child_home seen fits (sight_of seen now) (sight_of seen (with_entry now h)) f n birth numbered front_made fresh_there (λ one. absurd (omega (arith, one, place_is, before.main))) not_mine
+            child_home seen fits (sight_of seen now) (sight_of seen (with_entry now h)) [] f n birth numbered (onward seen now h before.legal made_follows now.out) fresh_there (λ one. absurd (omega (arith, one, place_is, before.main))) not_mine
             (IsQuiet-owed (world_at now.start) n (IsQuiet-start now.start)) number born (share ∙ fresh_child.share) (ap listed (owes ∙ fresh_child.owes)) fitting
 
         each_home : (place : ℕ) (body : B) → (slice_get bodies place ≡ Some (Some body)) ⊎ ((place ≡ length bodies) × (Some numbered ≡ Some body)) → IsHome seen fits (sight_of seen (with_entry now h)) (place + 1) body
@@ -155,7 +147,7 @@ module _ {B S : Type 0} (seen : B → Carry S) (fits : B → List Happened → T
           main = rw (length-append bodies (Some numbered ∷ [])) (omega arith);
           count = length-append bodies (Some numbered ∷ []) ∙ (many ∙ ap (λ (u : State). length u.fibers) (sym step));
           home = λ place body there. each_home place body (get-pushed bodies (Some numbered) place (Some body) there);
-          away = λ g gone. record { made = (before.away g gone).made; place = get-append_left bodies (Some numbered ∷ []) (g - 1) None (before.away g gone).place };
+          away = λ g gone. record { made = (before.away g gone).made; place = slice_get-append_left bodies (Some numbered ∷ []) (g - 1) None (before.away g gone).place };
           gone = λ place empty. none_else place (get-pushed bodies (Some numbered) place None empty);
           clock = still_home seen fits now h 0 ticking legal (λ zero_is. absurd (omega (arith, zero_is, (before.away f out).made))) before.clock;
         }

@@ -8,17 +8,17 @@ use Rattle.pic_machine.specs.declared.entry.Happened.{Happened}
 use Rattle.pic_machine.specs.State.{State}
 use Rattle.std.proofs.lemmas.Option.{slice_get_read, slice_get_within}
 use Rattle.pic_machine.specs.declared.state.FiberState.TheVariants.{Live}
-use Rattle.pic_machine.specs.Step.{Allowed, IsLive, after, reply_of}
+use Rattle.pic_machine.specs.Step.{Allowed, IsLive, MakesNoFiber, after, reply_of}
 use Rattle.pic_machine.specs.History.{Follows, IsLegal, MayMake, event, origin_of, world}
 use Rattle.pic_machine.specs.Sight.{Carry, fiber_of}
 use Rattle.pic_machine.specs.Home.{IsHome}
 use Rattle.pic_machine.specs.Lending.{Later}
 use Rattle.pic_machine.proofs.Histories.{IsLegal-push, world-push}
 use Rattle.pic_machine.proofs.Homes.{home_stays}
-use Rattle.port_plain.specs.Shown.{MakesNoFiber, Shown, sight_of, with_entry}
+use Rattle.port_plain.specs.Shown.{Shown, sight_of, with_entry}
 use Rattle.port_plain.specs.Stored.{IsAway, IsStored}
-use Rattle.port_plain.proofs.Places.{get-set_same, get-set_other}
-use Rattle.port_plain.proofs.Steps.{allowed_now, as_many, event_follows}
+use Rattle.pic_machine.proofs.Steps.{length-fibers, slice_get-set_other, slice_get-set_same}
+use Rattle.port_plain.proofs.Steps.{allowed_now, event_follows}
 
 module _ {B S : Type 0} (seen : B → Carry S) (fits : B → List Happened → Type 0) where
   pub later : (port : Shown B) (h : Happened) → Later (sight_of seen port) (sight_of seen (with_entry port h)) (h ∷ [])
@@ -68,7 +68,7 @@ module _ {B S : Type 0} (seen : B → Carry S) (fits : B → List Happened → T
   module _ (port : Shown B) (w : State) (bodies : List (Option B)) (ticking : B) (f : ℕ) (body : B) (stored : IsStored seen fits port w bodies ticking) where
     module _ (out : port.out ≡ Some f) (home : IsHome seen fits (sight_of seen port) f body) where
       put_back : slice_get (slice_set bodies (f - 1) (Some body)) (f - 1) ≡ Some (Some body)
-      put_back = get-set_same bodies (f - 1) None (Some body) (stored.away f out).place
+      put_back = slice_get-set_same bodies (f - 1) (Some body) (slice_get_within bodies (f - 1) None (stored.away f out).place)
 
       back_home : (place : ℕ) (other : B) → slice_get (slice_set bodies (f - 1) (Some body)) place ≡ Some (Some other) → (place ≡ f - 1) ⊎ (place ≢ f - 1) → IsHome seen fits (sight_of seen port) (place + 1) other
       back_home place other there (inl at) =
@@ -76,13 +76,13 @@ module _ {B S : Type 0} (seen : B → Carry S) (fits : B → List Happened → T
           let same : body ≡ other = cc in
           let here : f ≡ place + 1 = omega (arith, at, (stored.away f out).made) in
           subst (λ (b : B). IsHome seen fits (sight_of seen port) (place + 1) b) same (subst (λ (n : ℕ). IsHome seen fits (sight_of seen port) n body) here home)
-      back_home place other there (inr apart) = stored.home place other (sym (get-set_other bodies (f - 1) place (Some body) apart) ∙ there)
+      back_home place other there (inr apart) = stored.home place other (sym (slice_get-set_other bodies (f - 1) place (Some body) apart) ∙ there)
 
       none_gone : (place : ℕ) → slice_get (slice_set bodies (f - 1) (Some body)) place ≡ Some None → (place ≡ f - 1) ⊎ (place ≢ f - 1) → ⊥
       none_gone place empty (inl at) =
           let e : Some (Some body) ≡ Some None = sym put_back ∙ (ap (λ (n : ℕ). slice_get (slice_set bodies (f - 1) (Some body)) n) (sym at) ∙ empty) in cc
       none_gone place empty (inr apart) =
-          let there : port.out ≡ Some (place + 1) = stored.gone place (sym (get-set_other bodies (f - 1) place (Some body) apart) ∙ empty) in
+          let there : port.out ≡ Some (place + 1) = stored.gone place (sym (slice_get-set_other bodies (f - 1) place (Some body) apart) ∙ empty) in
           let e : Some f ≡ Some (place + 1) = sym out ∙ there in
           let same : f ≡ place + 1 = cc in
           apart (omega (arith, same))
@@ -101,17 +101,17 @@ module _ {B S : Type 0} (seen : B → Carry S) (fits : B → List Happened → T
 
     module _ (out : port.out ≡ None) (made : 0 < f) (there : slice_get bodies (f - 1) ≡ Some (Some body)) where
       let_out : slice_get (slice_set bodies (f - 1) None) (f - 1) ≡ Some None
-      let_out = get-set_same bodies (f - 1) (Some body) None there
+      let_out = slice_get-set_same bodies (f - 1) None (slice_get_within bodies (f - 1) (Some body) there)
 
       still_there : (place : ℕ) (other : B) → slice_get (slice_set bodies (f - 1) None) place ≡ Some (Some other) → (place ≡ f - 1) ⊎ (place ≢ f - 1) → IsHome seen fits (sight_of seen port) (place + 1) other
       still_there place other is (inl at) =
           let e : Some None ≡ Some (Some other) = sym let_out ∙ (ap (λ (n : ℕ). slice_get (slice_set bodies (f - 1) None) n) (sym at) ∙ is) in absurd cc
-      still_there place other is (inr apart) = stored.home place other (sym (get-set_other bodies (f - 1) place None apart) ∙ is)
+      still_there place other is (inr apart) = stored.home place other (sym (slice_get-set_other bodies (f - 1) place None apart) ∙ is)
 
       one_gone : (place : ℕ) → slice_get (slice_set bodies (f - 1) None) place ≡ Some None → (place ≡ f - 1) ⊎ (place ≢ f - 1) → Some f ≡ Some (place + 1)
       one_gone place empty (inl at) = ap (λ (n : ℕ). Some n) (omega (arith, at, made))
       one_gone place empty (inr apart) =
-          let e : None ≡ Some (place + 1) = sym out ∙ stored.gone place (sym (get-set_other bodies (f - 1) place None apart) ∙ empty) in absurd cc
+          let e : None ≡ Some (place + 1) = sym out ∙ stored.gone place (sym (slice_get-set_other bodies (f - 1) place None apart) ∙ empty) in absurd cc
 
       away_now : (g : ℕ) → Some f ≡ Some g → IsAway (slice_set bodies (f - 1) None) g
       away_now g is = let same : f ≡ g = cc in subst (λ (n : ℕ). IsAway (slice_set bodies (f - 1) None) n) same (record { made = made; place = let_out })
@@ -151,7 +151,7 @@ module _ {B S : Type 0} (seen : B → Carry S) (fits : B → List Happened → T
         pub made_stored : now.out ≡ Some f → (v : State) → v ≡ after w f call → IsStored seen fits (with_entry port (event f call reply)) v bodies ticking
         made_stored out v step =
             subst (λ (q : Shown B). IsStored seen fits (with_entry q (event f call reply)) v bodies ticking) (sym same)
-            (entry_stored now w v bodies ticking (event f call reply) (subst (λ (q : Shown B). IsStored seen fits q w bodies ticking) same stored) out made_follows step (as_many w f call none))
+            (entry_stored now w v bodies ticking (event f call reply) (subst (λ (q : Shown B). IsStored seen fits q w bodies ticking) same stored) out made_follows step (length-fibers w f call none))
 
     pub stored_seen : IsStored seen fits now w bodies ticking
     stored_seen = subst (λ (q : Shown B). IsStored seen fits q w bodies ticking) same stored

@@ -10,19 +10,19 @@ use Rattle.pic_machine.specs.declared.port.PortFault.TheVariants.{Full, Memory}
 use Rattle.pic_machine.specs.declared.entry.Happened.{Happened}
 use Rattle.pic_machine.specs.declared.world.Start.{Start}
 use Rattle.pic_machine.specs.State.{State, owed_of}
-use Rattle.pic_machine.specs.Step.{IsLive, MayAct, after, reply_of}
+use Rattle.pic_machine.specs.Step.{IsLive, MakesNoFiber, MayAct, after, reply_of}
 use Rattle.pic_machine.specs.History.{Follows, IsLegal, event, forked, origin_of, world}
 use Rattle.pic_machine.specs.Log.{is_turn, log, visible}
-use Rattle.pic_machine.specs.Sight.{Carry, Holds, IsChild, IsSame, Notes, fiber_of}
+use Rattle.pic_machine.specs.Sight.{Carry, Holds, IsChild, Notes, fiber_of}
 use Rattle.pic_machine.specs.Home.{IsHome}
-use Rattle.pic_machine.specs.Lending.{Began, Called, FitsWith, Kept, Laid, Lent, Made, RefusesMaking, Spared}
+use Rattle.pic_machine.specs.Lending.{Began, Called, FitsWith, Laid, Lent, Made, RefusesMaking, Spared}
 use Rattle.pic_machine.proofs.Histories.{log-push_hidden, world-push}
 use Rattle.pic_machine.proofs.Homes.{home_held, made_home}
-use Rattle.pic_machine.proofs.Onward.{Onward, onward_began, onward_lent, onward_made, spared}
+use Rattle.pic_machine.proofs.Onward.{Onward, onward_began, onward_lent, onward_made, spared_same}
 use Rattle.pic_machine.proofs.Quiet.{IsQuiet-owed, IsQuiet-start, IsQuiet-world}
 use Rattle.pic_machine.proofs.Standing.{birth_stays}
-use Rattle.port_plain.specs.Shown.{IsLast, IsLent, MakesNoFiber, NoFiber, Shown, listed, sight_of, with_entry}
-use Rattle.port_plain.proofs.Steps.{Acts, acts_on}
+use Rattle.port_plain.specs.Shown.{IsLast, IsLent, NoFiber, Shown, listed, sight_of, with_entry}
+use Rattle.pic_machine.proofs.Steps.{EndsNone, acts_own}
 
 -- ---- which calls are which
 
@@ -35,7 +35,7 @@ lent_no_fiber (Fork text value) is = absurd is
 lent_no_fiber (Say v) is = tt
 lent_no_fiber (End o) is = absurd is
 
-pub lent_acts : (call : Call) → IsLent call → Acts call
+pub lent_acts : (call : Call) → IsLent call → EndsNone call
 lent_acts Turn is = absurd is
 lent_acts Yield is = absurd is
 lent_acts (Complete c o) is = tt
@@ -83,41 +83,24 @@ module _ {B S : Type 0} (seen : B → Carry S) (port : Shown B) (h : Happened) (
   front_began out = onward_began (sight_of seen port) (sight_of seen (record (with_entry port h) { out = out })) [] h (onward out)
 
   -- the body whose fiber made it, and in which it was noted
-  pub lent : (a b : Carry S) → Holds (sight_of seen port) a → h.entry.fiber ≡ fiber_of a → is_turn h.entry.call ≡ false → Acts h.entry.call → Notes a b (h.entry ∷ []) → Lent (sight_of seen port) (sight_of seen (with_entry port h)) a b h
+  pub lent : (a b : Carry S) → Holds (sight_of seen port) a → h.entry.fiber ≡ fiber_of a → is_turn h.entry.call ≡ false → EndsNone h.entry.call → Notes a b (h.entry ∷ []) → Lent (sight_of seen port) (sight_of seen (with_entry port h)) a b h
   lent a b holds mine within acts notes =
       let none : listed b.owes ≡ [] = ap listed notes.owes ∙ (holds.owes ∙ owes_none port.start port.front (fiber_of a)) in
       let stays : MayAct (after (world (origin_of port.start) port.front) h.entry.fiber h.entry.call) (fiber_of a) =
-      subst (λ (f : ℕ). MayAct (after (world (origin_of port.start) port.front) f h.entry.call) (fiber_of a)) (sym mine) (acts_on (world (origin_of port.start) port.front) (fiber_of a) h.entry.call acts holds.acts) in
+      subst (λ (f : ℕ). MayAct (after (world (origin_of port.start) port.front) f h.entry.call) (fiber_of a)) (sym mine) (acts_own (world (origin_of port.start) port.front) (fiber_of a) h.entry.call acts holds.acts) in
       onward_lent (sight_of seen port) (sight_of seen (with_entry port h)) a b [] h (onward port.out) tt holds refl mine within notes.birth notes.number (notes.noted ∙ rw within refl) notes.share
       (none ∙ sym (owes_none port.start (port.front ++ h ∷ []) (fiber_of a))) (subst (λ (w : State). MayAct w (fiber_of a)) (sym (world-push (origin_of port.start) port.front h)) stays)
 
 -- ---- nothing happened
 
 module _ {B S : Type 0} (seen : B → Carry S) (port : Shown B) where
-  abbrev pub kept_same : IsLegal (origin_of port.start) port.front → Kept (sight_of seen port) (sight_of seen port)
-  kept_same legal = record {
-    grown = record {
-      others = [];
-      none = λ alone. refl;
-      later = record { origin = refl; share = refl; alone = refl; front = sym (append-nil port.front); steady = omega arith };
-      legal = legal;
-    };
-    out = refl;
-  }
-
-  pub spared_same : (a b : Carry S) → Holds (sight_of seen port) a → IsSame a b → b.owes ≡ a.owes → Spared (sight_of seen port) (sight_of seen port) a b
-  spared_same a b holds same owes = spared (sight_of seen port) (sight_of seen port) a b (kept_same holds.legal) tt holds same (ap listed owes)
-
-  pub spared_itself : (a : Carry S) → Holds (sight_of seen port) a → Spared (sight_of seen port) (sight_of seen port) a a
-  spared_itself a holds = spared_same a a holds (record { birth = refl; number = refl; noted = refl; share = refl }) refl
-
   pub refused : (new : Shown B) (a : Carry S) → new ≡ port → Holds (sight_of seen port) a → Spared (sight_of seen port) (sight_of seen new) a a
-  refused new a same holds = subst (λ (q : Shown B). Spared (sight_of seen port) (sight_of seen q) a a) (sym same) (spared_itself a holds)
+  refused new a same holds = subst (λ (q : Shown B). Spared (sight_of seen port) (sight_of seen q) a a) (sym same) (spared_same (sight_of seen port) a holds)
 
 -- ---- the calls that a body is lent for
 
 module _ {B S : Type 0} (seen : B → Carry S) (port new : Shown B) (f : ℕ) (call : Call) (reply : Reply) (made : new ≡ with_entry port (event f call reply)) (follows : Follows (origin_of port.start) port.front (event f call reply)) where
-  pub called : (a b : Carry S) → Holds (sight_of seen port) a → a.number ≡ Some f → Acts call → is_turn call ≡ false → Notes a b ((event f call reply).entry ∷ []) → Called (sight_of seen port) (sight_of seen new) a b call reply
+  pub called : (a b : Carry S) → Holds (sight_of seen port) a → a.number ≡ Some f → EndsNone call → is_turn call ≡ false → Notes a b ((event f call reply).entry ∷ []) → Called (sight_of seen port) (sight_of seen new) a b call reply
   called a b holds number acts within notes =
       let is : fiber_of a ≡ f = fiber_is a f number in
       subst (λ (q : Shown B). Called (sight_of seen port) (sight_of seen q) a b call reply) (sym made)
@@ -244,7 +227,7 @@ module _ {B S : Type 0} (seen : B → Carry S) (fits : B → List Happened → T
     claim_held shows body home live =
         let there = turned_home body home in
         let q : Shown B = record (with_entry port turn) { out = Some f } in
-        let acts : MayAct (world (origin_of q.start) q.front) f = subst (λ (w : State). MayAct w f) (sym (world-push (origin_of port.start) port.front turn)) (acts_on (world (origin_of port.start) port.front) f Turn tt (inr live)) in
+        let acts : MayAct (world (origin_of q.start) q.front) f = subst (λ (w : State). MayAct w f) (sym (world-push (origin_of port.start) port.front turn)) (acts_own (world (origin_of port.start) port.front) f Turn tt (inr live)) in
         let held = home_held seen fits (sight_of seen q) f body there (front_began seen port turn legal_before turn_follows (Some f)).legal refl acts (shows body (log q.front f) there.fitting) in
         subst (λ (r : Shown B). Holds (sight_of seen r) (seen body) × (fiber_of (seen body) ≡ f) × fits body (log r.front f)) (sym is_turned) (held.0, held.1, there.fitting)
 

@@ -54,11 +54,6 @@ sight_of seen port = record {
 abbrev pub with_entry : {B : Type 0} → Shown B → Happened → Shown B
 with_entry port h = record port { front = port.front ++ h ∷ [] }
 
--- the calls that make no fiber
-abbrev pub MakesNoFiber : Call → Type 0
-MakesNoFiber (call.Fork text value) = ⊥
-MakesNoFiber _ = ⊤
-
 -- the calls that a body is lent for, and which make no fiber
 abbrev pub IsLent : Call → Type 0
 IsLent (call.Complete comp outcome) = ⊤

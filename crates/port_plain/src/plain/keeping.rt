@@ -1,10 +1,10 @@
 //! What the port stores, step by step: each of these calls keeps its invariant.
 ghost use Rattle.std.specs.Prelude.{◌≡◌, ◌≢◌, ◌∷◌, [], ◌++◌, Some, None, IfErr, IfOk, OnErr};
-ghost use Rattle.pic_machine.specs.Step.{IsLive};
+ghost use Rattle.pic_machine.specs.Step.{IsLive, MakesNoFiber};
 ghost use Rattle.pic_machine.specs.History.{Follows, IsLegal, MayMake, event, forked, origin_of, world};
 ghost use Rattle.pic_machine.specs.Sight.{IsChild, fiber_of};
 ghost use Rattle.pic_machine.specs.Home.{IsHome};
-ghost use Rattle.port_plain.specs.Shown.{MakesNoFiber, NoFiber, sight_of, with_entry};
+ghost use Rattle.port_plain.specs.Shown.{NoFiber, sight_of, with_entry};
 
 use super::{PlainPort, reply};
 use pic_base::{FiberNo, Memory, Value};

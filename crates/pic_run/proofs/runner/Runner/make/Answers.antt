@@ -1,6 +1,5 @@
-use Rattle.std.proofs.Common.{sym, subst}
 use Rattle.pic_machine.specs.Step.{Allowed}
-use Rattle.pic_run.specs.Past.{Past, world_of}
+use Rattle.pic_run.specs.Past.{Past}
 use Rattle.pic_run.proofs.Running.{kept-push, kept_may}
 use Rattle.pic_run.proofs.runner.Runner.make.Goals as goal
 

@@ -19,6 +19,7 @@ use Rattle.pic_machine.specs.History.{birth_among, event, made_birth, origin_of,
 use Rattle.pic_machine.specs.Log.{is_logged, log}
 use Rattle.pic_machine.specs.Order.{GoesOn, IsOwn, InFifo, begin, readied, turn}
 use Rattle.pic_machine.proofs.Histories.{world-push}
+use Rattle.pic_machine.proofs.Turns.{each-append}
 use Rattle.pic_machine.proofs.Quiet.{IsQuiet-all, IsQuiet-start, IsQuiet-world}
 use Rattle.script_tree.specs.declared.program.Operand.TheVariants.{Reg}
 use Rattle.script_tree.specs.declared.program.Stmt.{Stmt}
@@ -31,10 +32,6 @@ use Rattle.pic_run.specs.Texts.{main_text, text_of}
 use Rattle.pic_run.proofs.Running.{longer, pair}
 
 -- ---- lists of which each element has a property
-
-each-append : {A : Type 0} (P : A → Type 0) (xs ys : List A) → AllByRecursion P xs → AllByRecursion P ys → AllByRecursion P (xs ++ ys)
-each-append P [] ys p q = q
-each-append P (x ∷ xs) ys p q = (p.0, each-append P xs ys p.1 q)
 
 each_at : {A : Type 0} (P : A → Type 0) (xs : List A) (n : ℕ) (x : A) → AllByRecursion P xs → n < length xs → x ≡ get_or xs n x → P x
 each_at P [] n x all within is = absurd (omega arith)

@@ -17,8 +17,9 @@ use pic_io::{Files, Sink};
 use std::alloc::Global;
 
 /// Does what the words ask for: reads the script, and writes the report of a run of it, that it is
-/// one, or its canonical text, or one line that says why it doesn't. The words are the arguments without the program's name; the file of the
-/// input is not opened yet, since no statement reads it. Want of memory may come at any point.
+/// one, or its canonical text; or one line that says why it doesn't. The words are the arguments
+/// without the program's name. The file of the input is not opened yet, since no statement that runs
+/// reads it. Want of memory may come at any point.
 pub fn run_one_call<F: Files, K: Sink>(
     alloc: Global,
     words: &[String],

@@ -1,5 +1,6 @@
 //! The words that every crate of Picos core shares: the numbers of things, the outcome of a
-//! computation, the duties of a fiber, the limits of a machine, and the refusal for want of memory.
+//! computation, the duties of a fiber, the limits of a machine and of a fiber, and the refusal for want
+//! of memory.
 //!
 //! It stands on std alone. The layers above use its types as they are, and `outcome_text` of
 //! `specs/Outcome.antt` for what an outcome prints.
@@ -12,7 +13,7 @@ mod numbers;
 mod outcome;
 
 pub use duty::Duty;
-pub use limits::Limits;
+pub use limits::{Limits, STEPS};
 pub use memory::Memory;
 pub use numbers::{CompNo, FiberNo, TriggerNo, Value};
 pub use outcome::Outcome;

@@ -6,3 +6,6 @@ pub struct Limits {
     /// Computations, the root included.
     pub comps: u32,
 }
+
+/// How many steps a fiber may make: each statement that it begins is one.
+pub const STEPS: u32 = 200_000;

@@ -1,5 +1,5 @@
 -- The order of turns on one worker, first ready first.
-use Rattle.std.specs.Prelude.{◌≡◌, ℕ, Bool, true, false, List, [], ◌∷◌, ◌++◌}
+use Rattle.std.specs.Prelude.{◌≡◌, ℕ, Bool, true, false, List, [], ◌∷◌, ◌++◌, length, filter}
 use Rattle.std.specs.List.{AllByRecursion, flat_map}
 use Rattle.pic_machine.specs.declared.entry.Call.{Call}
 use Rattle.pic_machine.specs.declared.entry.Call.TheVariants.{Turn, Yield, Fork, End}
@@ -26,6 +26,10 @@ GoesOn h = stops h.entry.call h.entry.reply ≡ false
 
 abbrev pub Stops : Happened → Type 0
 Stops h = stops h.entry.call h.entry.reply ≡ true
+
+-- how many of these entries end a turn
+abbrev pub turns_over : List Happened → ℕ
+turns_over hs = length (filter (λ h. stops h.entry.call h.entry.reply) hs)
 
 -- the entries of one turn of fiber f: its own alone, of which the last and only the last ends it
 pub record IsTurn (f : ℕ) (hs : List Happened) : Type 0 where

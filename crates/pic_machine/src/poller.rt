@@ -1,5 +1,8 @@
-ghost use Rattle.std.specs.Prelude.{◌≡◌, ◌≢◌};
+ghost use Rattle.std.specs.Prelude.{◌≡◌, ◌≢◌, ◌+◌, ◌≤◌, List, Some};
+ghost use Rattle.pic_base.specs.declared.limits.TheConstants.{STEPS};
+ghost use Rattle.pic_machine.specs.declared.entry.Happened.{Happened};
 ghost use Rattle.pic_machine.specs.Log.{log};
+ghost use Rattle.pic_machine.specs.Order.{turns_over};
 ghost use Rattle.pic_machine.specs.Sight.{Holds, Sight, fiber_of};
 
 use crate::body::Carried;
@@ -40,4 +43,8 @@ pub trait Poller<P: Port> {
     // Where the history began, and what its bodies share, are all that matters of a port.
     ghost polls_later: { (poller : Self) (old new : Sight P.Body.Share) → polls poller old
         → new.origin ≡ old.origin → new.share ≡ old.share → polls poller new };
+
+    // A fiber has no more turns than it has steps, and the one in which it ends.
+    ghost few: { (poller : Self) (body : P.Body) (log : List Happened) → (P.Body.seen body).number ≢ Some 0
+        → P.Body.fits body log → turns_over log ≤ STEPS + 1 };
 }

@@ -1,5 +1,6 @@
 pub mod Canon
 pub mod Cause
+pub mod Denial
 pub mod Forms
 pub mod Grammar
 pub mod Known

@@ -13,7 +13,6 @@ use Rattle.script_tree.specs.declared.reading.Parts.{Parts}
 use Rattle.script_tree.specs.declared.reading.Reading.{Reading}
 use Rattle.script_tree.specs.declared.refusal.ParseRefusal.{ParseRefusal}
 use Rattle.script_tree.specs.declared.refusal.ParseRefusal.TheVariants as parse_refusal
-use Rattle.script_tree.specs.declared.refusal.Refused.{Refused}
 use Rattle.script_tree.specs.Grammar.{refused}
 use Rattle.script_tree.specs.Names.{Named, thing_of}
 use Rattle.script_tree.specs.Reading.{Frame, State}
@@ -57,11 +56,6 @@ IsFree names _ = Unit {0}
 abbrev pub Refuses : {A : Type 0} → Fault → Result A Cause → Type 0
 Refuses (fault.Cause c) r = r ≡ Err c
 Refuses fault.Memory r = Unit {0}
-
--- a refusal is the grammar's, or want of memory
-abbrev pub Denies : {A : Type 0} → ParseRefusal → Result A Refused → Type 0
-Denies (parse_refusal.Refused r) x = x ≡ Err r
-Denies parse_refusal.Memory x = Unit {0}
 
 -- the refusal for a fault of a line
 abbrev pub refusal_for : ℕ → Fault → ParseRefusal

@@ -4,7 +4,8 @@ ghost use Rattle.script_text.specs.Spans.{rows_of};
 ghost use Rattle.script_tree.specs.Grammar.{is_header as is_header_in, file_read, rows_read, script_read, grammar, refused as refused_in, fault_refused};
 ghost use Rattle.script_tree.specs.Slices.{words_of};
 ghost use Rattle.script_tree.specs.Reading.{start};
-ghost use Rattle.script_tree.specs.Stand.{state_of, tree_of_parts, Denies, refusal_for, refusal_for_words};
+ghost use Rattle.script_tree.specs.Denial.{Denies};
+ghost use Rattle.script_tree.specs.Stand.{state_of, tree_of_parts, refusal_for, refusal_for_words};
 ghost use Rattle.script_tree.specs.WellFormed.{IsWellFormed};
 ghost use Rattle.script_tree.specs.Within.{AreWithin};
 

@@ -1,0 +1,7 @@
+pub mod Texts
+pub mod Meaning
+pub mod Follows
+pub mod Shown
+pub mod Fits
+pub mod Starts
+pub mod Laws

@@ -1,0 +1,11 @@
+-- What stands before the first entry of a script's runs.
+use Rattle.std.specs.Prelude.{ℕ, ◌+◌, length}
+use Rattle.pic_base.specs.declared.limits.Limits.{Limits}
+use Rattle.pic_machine.specs.declared.world.Start.{Start}
+use Rattle.script_tree.specs.Tree.{Tree}
+use Rattle.fiber_body.specs.Texts.{main_text}
+
+-- the root and the declared computations stand (so far nothing else is declared), and main runs the
+-- main text
+abbrev pub start_of : Tree → Limits → Start
+start_of script limits = record { comps = length script.decls + 1; text = main_text script; limits = limits }

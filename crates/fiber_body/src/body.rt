@@ -1,0 +1,156 @@
+ghost use Rattle.std.specs.Prelude.{◌≡◌, ◌<◌, ◌-◌, Some, None, IfOk, slice_index, slice_set, vec_len, vec_capacity};
+ghost use Rattle.std.specs.Option.{option_map};
+ghost use Rattle.std.specs.Arc.{arc_value};
+ghost use Rattle.fiber_body.specs.Shown.{IsNew};
+
+use crate::standing::Standing;
+use pic_base::{CompNo, FiberNo, Memory, STEPS, Value};
+use pic_machine::{Birth, Entry};
+use script_tree::Program;
+use std::alloc::Global;
+use std::marker::Model;
+use std::sync::Arc;
+
+/// A fiber's body: all that a fiber is between two entries. Contracts see it as the `Shown` of
+/// `specs/Shown.antt`.
+#[derive(Drop)]
+pub struct Body {
+    program: Option<Arc<Program>>,
+    pub(crate) birth: Birth,
+    pub(crate) number: Option<FiberNo>,
+    registers: [Value; 16],
+    steps: u32,
+    standing: Standing,
+    pub(crate) noted: Vec<Entry>,
+}
+
+impl Model for Body {
+    ghost use Rattle.std.specs.Prelude.{◌-◌, vec_len, vec_capacity};
+    ghost use Rattle.fiber_body.specs.Shown.{Shown};
+    ghost use Rattle.std.specs.Option.{option_map};
+    ghost use Rattle.std.specs.Arc.{arc_value};
+
+    ghost Value = { Shown };
+
+    ghost view = { λ body. record {
+      program = option_map arc_value body.program;
+      birth = body.birth;
+      number = body.number;
+      registers = body.registers;
+      steps = body.steps;
+      standing = body.standing;
+      noted = body.noted.items;
+      room = vec_capacity body.noted - vec_len body.noted;
+    } };
+}
+
+impl Body {
+    /// The body of a fiber of the program that is to run the text, with its current computation. It has
+    /// no number yet.
+    pub fn new(
+        alloc: Global,
+        program: &Arc<Program>,
+        text: u32,
+        value: Value,
+        current: CompNo,
+    ) -> Result<Body, Memory>
+        ensures { IfOk result (λ body. IsNew body (Some (arc_value program.now))
+            (record { text = text; value = value; current = current })) }
+    {
+        let program = Some(program.clone()?);
+        Ok(Body::unused(alloc, program, Birth { text, value, current }))
+    }
+
+    /// The body of the clock, which runs no text. It has no number yet.
+    pub fn clock(alloc: Global) -> Body
+        ensures { IsNew result None (record { text = 0; value = 0; current = 0 }) }
+    {
+        let birth = Birth {
+            text: 0,
+            value: 0,
+            current: 0,
+        };
+        Body::unused(alloc, None, birth)
+    }
+
+    fn unused(alloc: Global, program: Option<Arc<Program>>, birth: Birth) -> Body
+        ensures { IsNew result (option_map arc_value program) birth }
+    {
+        let mut registers = [0; 16];
+        registers[0] = birth.value;
+        Body {
+            program,
+            birth,
+            number: None,
+            registers,
+            steps: STEPS,
+            standing: Standing::At(0),
+            noted: Vec::new(alloc),
+        }
+    }
+
+    /// The text that it runs, a place among the program's texts.
+    pub fn text(&self) -> u32
+        ensures { result ≡ self.now.birth.text }
+    {
+        self.birth.text
+    }
+
+    /// The current computation.
+    pub fn current(&self) -> CompNo
+        ensures { result ≡ self.now.birth.current }
+    {
+        self.birth.current
+    }
+
+    /// The visible entries of its fiber so far.
+    pub fn entries(&self) -> &[Entry]
+        ensures { result.now ≡ self.now.noted }
+    {
+        self.noted.as_slice()
+    }
+
+    /// The value of the register with this number.
+    pub fn register(&self, place: u8) -> Value
+        requires { place < 16 }
+        ensures { result ≡ slice_index self.now.registers place }
+    {
+        self.registers[place as usize]
+    }
+
+    /// Puts the value into the register with this number.
+    pub fn set_register(&mut self, place: u8, value: Value)
+        requires { place < 16 }
+        ensures { self.new ≡ record self.old { registers = slice_set self.old.registers place value } }
+    {
+        self.registers[place as usize] = value;
+    }
+
+    /// How many steps it has left.
+    pub fn steps(&self) -> u32
+        ensures { result ≡ self.now.steps }
+    {
+        self.steps
+    }
+
+    /// Leaves it so many steps.
+    pub fn set_steps(&mut self, steps: u32)
+        ensures { self.new ≡ record self.old { steps = steps } }
+    {
+        self.steps = steps;
+    }
+
+    /// Where it stands in its text.
+    pub fn standing(&self) -> Standing
+        ensures { result ≡ self.now.standing }
+    {
+        self.standing
+    }
+
+    /// Lets it stand there from now on.
+    pub fn set_standing(&mut self, standing: Standing)
+        ensures { self.new ≡ record self.old { standing = standing } }
+    {
+        self.standing = standing;
+    }
+}

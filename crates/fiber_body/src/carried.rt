@@ -1,0 +1,60 @@
+//! What a port asks of a body.
+ghost use Rattle.std.proofs.Common.{refl, ◌∙◌};
+ghost use Rattle.fiber_body.specs.Shown.{IsSameRest, carry_of};
+ghost use Rattle.fiber_body.specs.Fits.{Fits};
+ghost use Rattle.fiber_body.specs.Laws.{clock_fits, fits_fresh, fits_same};
+
+use crate::body::Body;
+use pic_base::{FiberNo, Memory};
+use pic_machine::{Birth, Carried, Entry};
+use script_tree::Program;
+
+impl Carried for Body {
+    type Share = Option<Program>;
+
+    ghost seen = { carry_of };
+
+    ghost same_rest = { IsSameRest };
+
+    ghost fits = { Fits };
+
+    fn birth(&self) -> Birth {
+        self.birth
+    }
+
+    fn fiber(&self) -> FiberNo {
+        match self.number {
+            Some(fiber) => fiber,
+            None => unreachable!("the body has a number"),
+        }
+    }
+
+    fn number(&mut self, fiber: FiberNo) {
+        self.number = Some(fiber);
+    }
+
+    fn reserve(&mut self) -> Result<(), Memory> {
+        self.noted.reserve(1)?;
+        Ok(())
+    }
+
+    fn note(&mut self, entry: Entry) {
+        self.noted.push_reserved(entry);
+    }
+
+    ghost shows = { λ body log fits. fits.noted };
+
+    ghost clock = { clock_fits };
+
+    ghost fits_same = { fits_same };
+
+    ghost fits_fresh = { fits_fresh };
+
+    ghost rest_same = { λ body. record { registers = refl; steps = refl; standing = refl } };
+
+    ghost rest_after = { λ a b c one other. record {
+        registers = other.registers ∙ one.registers;
+        steps = other.steps ∙ one.steps;
+        standing = other.standing ∙ one.standing;
+    } };
+}

@@ -1,0 +1,1 @@
+//! Runs in the FIFO order.

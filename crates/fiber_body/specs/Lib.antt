@@ -1,4 +1,5 @@
 pub mod Texts
+pub mod Numbers
 pub mod Meaning
 pub mod Follows
 pub mod Shown

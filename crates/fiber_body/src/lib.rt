@@ -13,11 +13,13 @@
 
 mod body;
 mod carried;
+mod numbering;
 mod standing;
 mod start;
 mod texts;
 
 pub use body::Body;
+pub use numbering::number_of;
 pub use standing::Standing;
 pub use start::start_of;
 pub use texts::stmts_of;

@@ -1,2 +1,4 @@
 pub mod Built
 pub mod Polls
+pub mod Few
+pub mod Ranges

@@ -6,3 +6,5 @@ pub mod Fresh
 pub mod Onward
 pub mod Homes
 pub mod Turns
+pub mod Comps
+pub mod Ends

@@ -94,7 +94,7 @@ names_after w g other (End o) stand = tt
 
 -- ---- fibers
 
-outcome_fibers : (w : State) (c : ℕ) (o : Outcome) (s : Option CompState) → (with_outcome w c o s).fibers ≡ w.fibers
+pub outcome_fibers : (w : State) (c : ℕ) (o : Outcome) (s : Option CompState) → (with_outcome w c o s).fibers ≡ w.fibers
 outcome_fibers w c o None = refl
 outcome_fibers w c o (Some Running) = refl
 outcome_fibers w c o (Some (Done x)) = refl

@@ -58,7 +58,15 @@ impl Body {
             (record { text = text; value = value; current = current })) }
     {
         let program = Some(program.clone()?);
-        Ok(Body::unused(alloc, program, Birth { text, value, current }))
+        Ok(Body::unused(
+            alloc,
+            program,
+            Birth {
+                text,
+                value,
+                current,
+            },
+        ))
     }
 
     /// The body of the clock, which runs no text. It has no number yet.

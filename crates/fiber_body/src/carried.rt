@@ -53,8 +53,8 @@ impl Carried for Body {
     ghost rest_same = { λ body. record { registers = refl; steps = refl; standing = refl } };
 
     ghost rest_after = { λ a b c one other. record {
-        registers = other.registers ∙ one.registers;
-        steps = other.steps ∙ one.steps;
-        standing = other.standing ∙ one.standing;
+      registers = other.registers ∙ one.registers;
+      steps = other.steps ∙ one.steps;
+      standing = other.standing ∙ one.standing;
     } };
 }

@@ -1,4 +1,4 @@
-ghost use Rattle.std.specs.Prelude.{◌≡◌, ◌<◌, ◌^◌, length};
+ghost use Rattle.std.specs.Prelude.{◌≡◌, ◌≤◌, ◌<◌, ◌^◌, length};
 ghost use Rattle.fiber_body.specs.Starts.{start_of};
 
 use crate::texts::main_text;
@@ -8,7 +8,9 @@ use script_tree::Program;
 
 /// What stands before the first entry of the program's runs, on a machine with these limits.
 pub fn start_of(program: &Program, limits: Limits) -> Start
-    ensures { result ≡ start_of program.now limits }
+    ensures is { result ≡ start_of program.now limits }
+    // The root stands, and no program declares more than 576 things.
+    ensures few { result.comps ≤ 577 }
 {
     Start {
         comps: program.decls.len() as u32 + 1,

@@ -1,6 +1,6 @@
 -- How many turns a fiber of a script may have: each that isn't its last one ends with a statement, for
 -- which it has a step.
-use Rattle.std.proofs.Common.{◌≡◌, ◌≢◌, ℕ, ◌+◌, ◌<◌, ◌≤◌, Option, Some, None, List, [], ◌∷◌, ◌++◌, length, refl, sym, ap, subst, ◌∙◌, append-nil, arith}
+use Rattle.std.proofs.Common.{◌≡◌, ◌≢◌, ℕ, ◌+◌, ◌≤◌, Option, Some, None, List, [], ◌∷◌, ◌++◌, length, refl, sym, ap, subst, ◌∙◌, append-nil, arith}
 use Rattle.std.proofs.lemmas.List.{length-append}
 use Rattle.std.proofs.lemmas.List.Elements.{filter-append}
 use Rattle.pic_base.specs.declared.limits.TheConstants.{STEPS}
@@ -13,7 +13,7 @@ use Rattle.pic_machine.specs.Order.{stops, turns_over}
 use Rattle.script_tree.specs.declared.program.Stmt.{Stmt}
 use Rattle.fiber_body.specs.declared.standing.Standing.{Standing}
 use Rattle.fiber_body.specs.declared.standing.Standing.TheVariants.{At, Leaving}
-use Rattle.fiber_body.specs.Meaning.{Context, Does, Exit, Runs, cut, set_next, say_cut, say_next, return_cut, return_next, cancel_cut, cancel_next, peek_cut, peek_next, yield_cut, yield_next, spawn_cut, spawn_next, spawn_full, done, waits, exhausted, more, leaves, stepped}
+use Rattle.fiber_body.specs.Meaning.{Context, Does, Exit, Runs, cut, set_next, say_cut, say_next, return_cut, return_next, cancel_cut, cancel_next, peek_cut, peek_next, yield_cut, yield_next, spawn_cut, spawn_next, spawn_full, done, waits, exhausted, more, leaves}
 use Rattle.fiber_body.specs.Follows.{context_of}
 use Rattle.fiber_body.specs.Shown.{Shown, context_at}
 use Rattle.fiber_body.specs.Fits.{Fits, HasLeft, Leads, MayBeOf, Stands, before_end, behind_end, stmts_of_body}

@@ -1,4 +1,6 @@
 pub mod Built
 pub mod Polls
+pub mod Laws
 pub mod Few
 pub mod Ranges
+pub mod UnderWay

@@ -8,7 +8,13 @@
 #![tactic(auto)]
 
 mod forms;
+mod last;
+mod next;
 mod poller;
+mod spawn;
+mod stmts;
+mod turn;
+mod values;
 
 pub use forms::built;
 pub use poller::ScriptPoller;

@@ -1,11 +1,18 @@
-ghost use Rattle.std.specs.Prelude.{◌≡◌, None, [], IfOk};
+ghost use Rattle.std.specs.Prelude.{◌≡◌, ◌≢◌, ⊤, ◌+◌, ◌≤◌, ◌∷◌, None, [], false, IfOk, OnOk};
 ghost use Rattle.pic_machine.specs.Final.{IsFinal};
-ghost use Rattle.pic_machine.specs.History.{origin_of, world};
-ghost use Rattle.pic_machine.specs.Order.{IsInFifoOrder};
+ghost use Rattle.pic_machine.specs.History.{IsLegal, event, origin_of, world};
+ghost use Rattle.pic_machine.specs.Lending.{Began};
+ghost use Rattle.pic_machine.specs.Log.{log};
+ghost use Rattle.pic_machine.specs.Order.{IsInFifoOrder, turns_over};
+ghost use Rattle.pic_machine.specs.Sight.{Holds, fiber_of};
+ghost use Rattle.pic_machine.specs.Step.{IsLive};
+ghost use Rattle.pic_machine.specs.Turning.{Stopped};
+ghost use Rattle.mux_one.specs.UnderWay.{IsUnderWay, told_by};
 ghost use Rattle.port_plain.specs.Shown.{sight_of};
 
-use pic_base::Memory;
-use pic_machine::{Carried, Poller};
+use crate::line::Line;
+use pic_base::{FiberNo, Memory};
+use pic_machine::{Call, Carried, ClaimRefusal, Idle, Poller, Port, PortFault, Reply, Turn};
 use port_plain::PlainPort;
 use std::alloc::Global;
 
@@ -21,9 +28,100 @@ pub fn run_fifo<B: Carried + Send, Q: Poller<PlainPort<B>>>(
     requires out { port.out ≡ None }
     ensures origin { IfOk result (λ done. origin_of done.start ≡ origin_of port.start) }
     ensures share { IfOk result (λ done. (B.seen done.main).share ≡ (B.seen port.main).share) }
+    ensures legal { IfOk result (λ done. IsLegal (origin_of done.start) done.front) }
     ensures ordered { IfOk result (λ done. IsInFifoOrder done.front) }
     ensures over { IfOk result (λ done. IsFinal (world (origin_of done.start) done.front)) }
     ensures out { IfOk result (λ done. done.out ≡ None) }
 {
-    Err(Memory)
+    let mut port = port;
+    let mut line = Line::starting(alloc, port.world().fibers().len())?;
+    while let Some(fiber) = line.take() {
+        run_turn(poller, &mut port, &mut line, fiber)?;
+    }
+    finish(port)
+}
+
+/// Runs the next turn of a fiber that was first of the line.
+fn run_turn<B: Carried + Send, Q: Poller<PlainPort<B>>>(
+    poller: &Q,
+    port: &mut PlainPort<B>,
+    line: &mut Line,
+    fiber: FiberNo,
+) -> Result<(), Memory>
+    requires polls { Q.polls poller.now (sight_of B.seen port.old) }
+    requires whole { line.old.lost ≡ false }
+    requires under_way { IsUnderWay (sight_of B.seen port.old) (fiber ∷ line.old.queue.items) }
+    ensures origin { OnOk result (origin_of port.new.start ≡ origin_of port.old.start) }
+    ensures share { OnOk result ((B.seen port.new.main).share ≡ (B.seen port.old.main).share) }
+    ensures whole { OnOk result (line.new.lost ≡ false) }
+    ensures under_way { OnOk result (IsUnderWay (sight_of B.seen port.new) line.new.queue.items) }
+    ensures further { OnOk result (turns_over port.new.front ≡ turns_over port.old.front + 1) }
+{
+    let body = claim(port, fiber)?;
+    poll(poller, port, line, body)?;
+    if line.is_lost() {
+        return Err(Memory);
+    }
+    Ok(())
+}
+
+/// Begins a turn of a live fiber.
+fn claim<B: Carried + Send>(port: &mut PlainPort<B>, fiber: FiberNo) -> Result<B, Memory>
+    requires out { port.old.out ≡ None }
+    requires range { (1 ≤ fiber) × (fiber ≤ port.old.start.limits.fibers) }
+    requires live { IsLive (world (origin_of port.old.start) port.old.front) fiber }
+    ensures made { OnOk result (Began (sight_of B.seen port.old) (sight_of B.seen port.new)
+        (event fiber Call.Turn Reply.Plain)) }
+    ensures body { IfOk result (λ body. Holds (sight_of B.seen port.new) (B.seen body)
+        × (fiber_of (B.seen body) ≡ fiber)
+        × B.fits body (log port.new.front fiber)) }
+{
+    match port.claim(fiber) {
+        Ok(body) => Ok(body),
+        Err(ClaimRefusal::NotReady) => unreachable!("the fiber is live"),
+        Err(ClaimRefusal::Again) => unreachable!("the port is alone"),
+        Err(ClaimRefusal::Memory) => Err(Memory),
+    }
+}
+
+/// Polls a body whose turn has begun, until the turn is over.
+fn poll<B: Carried + Send, Q: Poller<PlainPort<B>>>(
+    poller: &Q,
+    port: &mut PlainPort<B>,
+    line: &mut Line,
+    body: B,
+) -> Result<(), Memory>
+    requires polls { Q.polls poller.now (sight_of B.seen port.old) }
+    requires holds { Holds (sight_of B.seen port.old) (B.seen body) }
+    requires fiber { fiber_of (B.seen body) ≢ 0 }
+    requires fits { B.fits body (log port.old.front (fiber_of (B.seen body))) }
+    ensures { OnOk result (Stopped (sight_of B.seen port.old) (sight_of B.seen port.new)
+        (fiber_of (B.seen body)) (told_by line.old.lost line.old.queue.items)
+        (told_by line.new.lost line.new.queue.items) (λ h. ⊤)) }
+{
+    match poller.poll(port, line, body) {
+        Turn::Ended => Ok(()),
+        Turn::Yielded => Ok(()),
+        Turn::Again(_) => unreachable!("the port is alone"),
+        Turn::Memory(_) => Err(Memory),
+    }
+}
+
+/// The port, which says that all is over.
+fn finish<B: Carried + Send>(port: PlainPort<B>) -> Result<PlainPort<B>, Memory>
+    requires under_way { IsUnderWay (sight_of B.seen port) [] }
+    ensures origin { IfOk result (λ done. origin_of done.start ≡ origin_of port.start) }
+    ensures share { IfOk result (λ done. (B.seen done.main).share ≡ (B.seen port.main).share) }
+    ensures front { IfOk result (λ done. done.front ≡ port.front) }
+    ensures legal { IfOk result (λ done. IsLegal (origin_of done.start) done.front) }
+    ensures over { IfOk result (λ done. IsFinal (world (origin_of done.start) done.front)) }
+    ensures out { IfOk result (λ done. done.out ≡ None) }
+{
+    let mut port = port;
+    match port.idle() {
+        Ok(Idle::Over) => Ok(port),
+        Ok(Idle::Busy) => unreachable!("nobody is live"),
+        Err(PortFault::Memory) => Err(Memory),
+        Err(_) => unreachable!("the port is alone"),
+    }
 }

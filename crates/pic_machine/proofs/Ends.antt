@@ -1,5 +1,5 @@
 -- A fiber that has ended stays so: a live one has not ended.
-use Rattle.std.proofs.Common.{◌≡◌, ◌≢◌, ℕ, zero, suc, ◌-◌, ◌<◌, ◌==◌, inl, inr, Bool, true, false, Option, Some, None, List, [], ◌∷◌, ◌++◌, length, filter, slice_get, slice_set, refl, sym, ap, subst, ◌∙◌, arith}
+use Rattle.std.proofs.Common.{◌≡◌, ◌≢◌, ℕ, zero, suc, ◌-◌, ◌<◌, ◌==◌, inl, inr, Bool, true, false, Some, List, [], ◌∷◌, ◌++◌, length, filter, slice_get, slice_set, refl, sym, ap, subst, ◌∙◌, arith}
 use Rattle.std.proofs.lemmas.Bool.Decides.{nat_tests}
 use Rattle.pic_base.specs.declared.outcome.Outcome.{Outcome}
 use Rattle.pic_machine.specs.declared.state.FiberState.{FiberState}
@@ -13,7 +13,7 @@ use Rattle.pic_machine.specs.Duty.{fulfilled}
 use Rattle.pic_machine.specs.Step.{IsLive, MayAct, after, has_room, owing, with_fiber}
 use Rattle.pic_machine.specs.History.{Origin, Follows, IsLegal, event, world, world_from}
 use Rattle.pic_machine.specs.Log.{is_logged, log}
-use Rattle.pic_machine.proofs.Histories.{world-push, world_from-append}
+use Rattle.pic_machine.proofs.Histories.{world_from-append}
 use Rattle.pic_machine.proofs.Steps.{not_clock, outcome_fibers, slice_get-append_left, slice_get-set_other, slice_get-set_same}
 
 -- the fiber at a place has ended

@@ -1,6 +1,8 @@
 -- Of a fiber that isn't made yet there is nothing: no entry, no duty and no birth. So the body of a child
 -- fits its fiber's log as soon as a fork has made it.
-use Rattle.std.proofs.Common.{◌≡◌, ◌≢◌, ℕ, ◌+◌, ◌-◌, ◌<◌, ◌≤◌, ◌==◌, inl, inr, Bool, true, false, Option, Some, None, List, [], ◌∷◌, ◌++◌, length, refl, sym, ap, subst, ◌∙◌, append_assoc, arith}
+use Rattle.std.proofs.Common.{◌≡◌, ◌≢◌, ℕ, zero, suc, ◌+◌, ◌-◌, ◌<◌, ◌≤◌, ◌==◌, cond, ◌⊎◌, inl, inr, Bool, true, false, Option, Some, None, List, [], ◌∷◌, ◌++◌, length, refl, sym, ap, subst, ◌∙◌, append_assoc, arith}
+use Rattle.std.proofs.lemmas.Bool.{cases_lt}
+use Rattle.std.proofs.lemmas.Bool.Decides.{nat_tests}
 use Rattle.std.proofs.lemmas.List.{length-append}
 use Rattle.std.proofs.lemmas.Option.{slice_get_within}
 use Rattle.pic_machine.specs.declared.birth.Birth.{Birth}
@@ -113,6 +115,39 @@ births_from origin front (h ∷ back) g legal fresh =
 
 pub no_birth : (origin : Origin) (hs : List Happened) (g : ℕ) → IsLegal origin hs → IsFresh (world origin hs) g → birth_among hs g ≡ None
 no_birth origin hs g legal fresh = births_from origin [] hs g legal fresh
+
+-- the clock was never made
+clock_unborn : (origin : Origin) (front back : List Happened) → IsLegal origin (front ++ back) → birth_among back 0 ≡ None
+clock_unborn origin front [] legal = refl
+clock_unborn origin front (h ∷ back) legal =
+    let assoc : (front ++ h ∷ []) ++ back ≡ front ++ h ∷ back = append_assoc front (h ∷ []) back in
+    let follows : Follows origin front h = legal.each front back h refl in
+    let other : (n : ℕ) → h.entry.reply ≡ Made n → n ≢ 0 = λ n made same.
+    let new = newest (world origin front) h.entry.fiber n h.entry.call (sym made ∙ follows.reply) in
+    absurd (omega (arith, new.number, same)) in
+    rw (no_birth_of h.entry.reply h.birth 0 other) (clock_unborn origin (front ++ h ∷ []) back (subst (IsLegal origin) (sym assoc) legal))
+
+unborn_has_none : {A : Type 0} (found : Option Birth) (birth : Birth) → found ≡ None → found ≡ Some birth → A
+unborn_has_none found birth none some = let both : None ≡ Some birth = sym none ∙ some in absurd cc
+
+among_made : (origin : Origin) (hs : List Happened) (f : ℕ) (birth : Birth) → IsLegal origin hs → birth_among hs f ≡ Some birth
+    → (length (world origin hs).fibers < f) ⊎ (f ≤ length (world origin hs).fibers) → (0 < f) × (f ≤ length (world origin hs).fibers)
+among_made origin hs zero birth legal is how = unborn_has_none (birth_among hs 0) birth (clock_unborn origin [] hs legal) is
+among_made origin hs (suc f) birth legal is (inl fresh) = unborn_has_none (birth_among hs (suc f)) birth (no_birth origin hs (suc f) legal fresh) is
+among_made origin hs (suc f) birth legal is (inr within) = (omega arith, within)
+
+born_made : (origin : Origin) (hs : List Happened) (f : ℕ) (birth : Birth) (b : Bool) → (f == 1) ≡ b → IsLegal origin hs → 0 < length origin.world.fibers
+    → cond b (Some origin.main) (birth_among hs f) ≡ Some birth → (0 < f) × (f ≤ length (world origin hs).fibers)
+born_made origin hs f birth true here legal main is =
+    let one : f ≡ 1 = grind (arith, nat_tests) in
+    let grown = fibers_grow origin.world hs in
+    (omega (arith, one), omega (arith, one, main, grown))
+born_made origin hs f birth false here legal main is = among_made origin hs f birth legal is (cases_lt (length (world origin hs).fibers) f)
+
+-- a fiber that has a birth was made
+pub birth_of_made : (origin : Origin) (hs : List Happened) (f : ℕ) (birth : Birth) → IsLegal origin hs → 0 < length origin.world.fibers
+    → birth_in origin hs f ≡ Some birth → (0 < f) × (f ≤ length (world origin hs).fibers)
+birth_of_made origin hs f birth legal main is = born_made origin hs f birth (f == 1) refl legal main is
 
 -- ---- the child of a fork
 

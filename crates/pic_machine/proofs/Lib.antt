@@ -8,3 +8,6 @@ pub mod Homes
 pub mod Turns
 pub mod Comps
 pub mod Ends
+pub mod Readiness
+pub mod Turnings
+pub mod Polls

@@ -48,7 +48,7 @@ module _ {S : Type 0} (old new : Sight S) (others : List Happened) (h : Happened
   onward_made on apart = record { others = others; none = on.none; not_mine = apart; later = onward_later on; legal = onward_legal on; calm = on.calm }
 
 -- a fiber's own entry within its turn stands in its log
-logged : (h : Happened) (f : ℕ) → h.entry.fiber ≡ f → is_turn h.entry.call ≡ false → is_logged f h ≡ true
+pub logged : (h : Happened) (f : ℕ) → h.entry.fiber ≡ f → is_turn h.entry.call ≡ false → is_logged f h ≡ true
 logged h f mine within = rw (mine, within, same_number f) refl
 
 -- the log of the fiber that made the entry
@@ -124,7 +124,7 @@ module _ {S : Type 0} (old new : Sight S) (before now : Carry S) where
 
 -- ---- a call that changed nothing
 
-later_same : {S : Type 0} (p : Sight S) → Later p p []
+pub later_same : {S : Type 0} (p : Sight S) → Later p p []
 later_same p = record { origin = refl; share = refl; alone = refl; front = sym (append-nil p.front); steady = omega arith }
 
 -- the port is as it was

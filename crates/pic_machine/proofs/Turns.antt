@@ -1,5 +1,5 @@
 -- How a turn is put together, call by call, and how the turns of a port that is alone make the FIFO order.
-use Rattle.std.proofs.Common.{◌≡◌, ◌⊎◌, ℕ, ◌≤◌, inl, inr, true, false, Option, Some, None, List, [], ◌∷◌, ◌++◌, refl, sym, ap, subst, ◌∙◌, append_assoc, append-nil, arith}
+use Rattle.std.proofs.Common.{◌≡◌, ℕ, ◌≤◌, inl, inr, true, false, Option, Some, None, List, [], ◌∷◌, ◌++◌, refl, sym, ap, subst, ◌∙◌, append_assoc, append-nil, arith}
 use Rattle.std.specs.List.{AllByRecursion}
 use Rattle.std.proofs.lemmas.Grind.{flat_map-append}
 use Rattle.pic_machine.specs.declared.entry.Call.TheVariants as call
@@ -10,9 +10,7 @@ use Rattle.pic_machine.specs.Log.{Others, is_turn, log}
 use Rattle.pic_machine.specs.Order.{GoesOn, InFifo, IsOwn, IsTurn, Stops, readied, readied_by, turn}
 use Rattle.pic_machine.specs.Sight.{Carry, Sight, Holds, fiber_of}
 use Rattle.pic_machine.specs.Lending.{Began, Grown, Later, Lent, Made, Rose, Spared}
-use Rattle.pic_machine.specs.declared.poller.Turn.{Turn}
-use Rattle.pic_machine.specs.declared.poller.Turn.TheVariants.{Ended, Yielded}
-use Rattle.pic_machine.specs.Turning.{Adds, EndsSo, Grew, Polled, Stopped, Went, YieldsSo}
+use Rattle.pic_machine.specs.Turning.{Adds, Grew, Stopped, Went}
 use Rattle.pic_machine.proofs.Onward.{log_made}
 use Rattle.pic_machine.proofs.Standing.{log_stays}
 
@@ -97,7 +95,7 @@ Grew-trans a b c f xs ys p q = record {
 pub went_none : {S : Type 0} (p : Sight S) (a : Carry S) (line : Option (List ℕ)) → Holds p a → Went p p a a line line
 went_none p a line holds = record { going = []; grew = grew_same p (fiber_of a); on = tt; line = Adds-nil line; holds = holds; number = refl }
 
-same_fiber : {S : Type 0} (a b : Carry S) → b.number ≡ a.number → fiber_of b ≡ fiber_of a
+pub same_fiber : {S : Type 0} (a b : Carry S) → b.number ≡ a.number → fiber_of b ≡ fiber_of a
 same_fiber {S} a b same = ap (λ (n : Option ℕ). fiber_of (record a { number = n })) same
 
 module _ {S : Type 0} (p q r : Sight S) (a b c : Carry S) (start now later : Option (List ℕ)) where
@@ -172,20 +170,3 @@ turn_in_order p q r f ready line How alone fifo began stopped =
     let lines : line ≡ ready ++ readied own = stopped.line.2 ∙ ap (λ (w : List ℕ). w ++ readied own) (sym same) in
     subst (λ (zs : List Happened). InFifo zs line) (sym front)
     (subst (λ (w : List ℕ). InFifo (p.front ++ event f call.Turn reply.Plain ∷ own) w) (sym lines) (turn own fifo is))
-
--- whichever way the poll of a claimed fiber says that the turn is over
-pub polled_in_order : {B S : Type 0} (ended : Turn B) (seen : B → Carry S) (fits : B → List Happened → Type 0) (p q r : Sight S) (a : Carry S) (f : ℕ) (before now : Option (List ℕ)) (ready line : List ℕ)
-    → Polled ended seen fits q r a before now → (ended ≡ Ended) ⊎ (ended ≡ Yielded) → fiber_of a ≡ f → before ≡ Some ready → now ≡ Some line
-    → p.alone ≡ true → InFifo p.front (f ∷ ready) → Began p q (event f call.Turn reply.Plain) → InFifo r.front line
-polled_in_order {B} {S} ended seen fits p q r a f before now ready line polled (inl is) same told_before told_now alone fifo began =
-    let here : Polled Ended seen fits q r a before now = subst (λ (t : Turn B). Polled t seen fits q r a before now) is polled in
-    turn_in_order p q r f ready line (λ h. EndsSo h.entry.call) alone fifo began
-    (subst (λ (g : ℕ). Stopped q r g (Some ready) (Some line) (λ h. EndsSo h.entry.call)) same
-    (subst (λ (o : Option (List ℕ)). Stopped q r (fiber_of a) (Some ready) o (λ h. EndsSo h.entry.call)) told_now
-    (subst (λ (o : Option (List ℕ)). Stopped q r (fiber_of a) o now (λ h. EndsSo h.entry.call)) told_before here)))
-polled_in_order {B} {S} ended seen fits p q r a f before now ready line polled (inr is) same told_before told_now alone fifo began =
-    let here : Polled Yielded seen fits q r a before now = subst (λ (t : Turn B). Polled t seen fits q r a before now) is polled in
-    turn_in_order p q r f ready line (λ h. YieldsSo h.entry.call) alone fifo began
-    (subst (λ (g : ℕ). Stopped q r g (Some ready) (Some line) (λ h. YieldsSo h.entry.call)) same
-    (subst (λ (o : Option (List ℕ)). Stopped q r (fiber_of a) (Some ready) o (λ h. YieldsSo h.entry.call)) told_now
-    (subst (λ (o : Option (List ℕ)). Stopped q r (fiber_of a) o now (λ h. YieldsSo h.entry.call)) told_before here)))

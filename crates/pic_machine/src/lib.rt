@@ -16,8 +16,9 @@
 //! The laws of `proofs/` are for those who write ports and what runs on them: how a legal history
 //! grows (`Histories`), what a step and what other fibers leave standing (`Steps`, `Standing`), that
 //! there is nothing of a fiber that isn't made (`Fresh`), that nobody owes anything yet (`Quiet`), how a
-//! port's call keeps the contract (`Onward`, `Homes`), and how turns are put together and stand in
-//! order (`Turns`). It stands on `pic_base`.
+//! port's call keeps the contract (`Onward`, `Homes`), how turns and the answers of polls are put
+//! together and stand in order (`Turns`, `Polls`), that the ready list has exactly the live fibers
+//! (`Readiness`), and how many turns there can be (`Turnings`). It stands on `pic_base`.
 #![tactic(auto)]
 
 mod birth;

@@ -6,40 +6,40 @@ use Rattle.std.specs.Io.KnownBytes.{Appends}
 use Rattle.script_tree.specs.declared.refusal.Refused.{Refused as Refusal}
 use Rattle.script_tree.specs.declared.refusal.ParseRefusal.{ParseRefusal}
 use Rattle.script_tree.specs.declared.refusal.ParseRefusal.TheVariants as parse_refusal
-use Rattle.script_tree.specs.Stand.{Denies}
+use Rattle.script_tree.specs.Denial.{Denies}
 use Rattle.script_tree.specs.Grammar.{grammar}
 use Rattle.pic_io.specs.Faults.{Rose}
 use Rattle.pic_io.specs.Held.{Held, Gives, IsLongerThan, holds}
-use Rattle.pic_machine.specs.declared.world.Start.{Start}
-use Rattle.pic_machine.specs.History.{world, origin_of}
+use Rattle.pic_machine.specs.declared.entry.Happened.{Happened}
+use Rattle.pic_machine.specs.State.{State}
+use Rattle.pic_machine.specs.History.{world}
 use Rattle.pic_run.specs.declared.answer.Answer.{Answer}
+use Rattle.pic_run.specs.declared.report.Report.{Report}
 use Rattle.pic_run.specs.declared.output.WriteRefusal.{WriteRefusal}
-use Rattle.pic_run.specs.declared.answer.Answer.{Answer}
 use Rattle.pic_run.specs.declared.output.WriteRefusal.TheVariants as refusal
 use Rattle.pic_run.specs.declared.status.Status.{Status}
-use Rattle.pic_run.specs.declared.status.Status.TheVariants.{Done, Usage, Refused, ReadFault, WriteFault, OutOfMemory, TooLarge}
+use Rattle.pic_run.specs.declared.status.Status.TheVariants.{Done, Raised, Usage, Refused, ReadFault, WriteFault, OutOfMemory, TooLarge}
 use Rattle.pic_run.specs.declared.limits.TheConstants.{MOST_BYTES}
 use Rattle.script_tree.specs.Tree.{Tree}
-use Rattle.pic_run.specs.Run.{IsRunOf, origin, start_of}
-use Rattle.pic_run.specs.Report.{declared_names, report, report_lines}
+use Rattle.pic_run.specs.Run.{origin}
+use Rattle.pic_run.specs.Over.{IsReportOf}
+use Rattle.pic_run.specs.Report.{report}
 use Rattle.pic_run.specs.Request.{Command, run, check, show, script_of, request}
 use Rattle.pic_run.specs.Refusal.{Accepts, IsRefused, no_script, not_served, IsServed, refusal_text}
-use Rattle.pic_run.specs.Served.{is_served}
-use Rattle.pic_run.specs.Status.{MainReturned}
+use Rattle.fiber_poll.specs.Built.{is_built}
+use Rattle.pic_run.specs.Status.{IsStatusOf}
 use Rattle.pic_run.specs.Output.{AppendsFront, Puts}
-use Rattle.pic_run.specs.Past.{Past, world_of}
 use Rattle.pic_run.specs.Due.{Asked, Answers, refused, ran, checked, shown, Due, usage, read_fault, too_large, answer, Ends, whole, fault, memory, Serves, wrote, gave_up}
 use Rattle.pic_run.specs.Answer.{Tells, answer_text, answer_status, ended_status}
-use Rattle.pic_run.specs.Headline.{CheckedBy, Headline, RefusedBy, ReadFaultBy, ShownBy, TooLargeBy, TookNoMore}
+use Rattle.pic_run.specs.Headline.{AsksRun, CheckedBy, EndsWell, Headline, RefusedBy, ReadFaultBy, ShownBy, TooLargeBy, TookNoMore}
 
 -- ---- the answer of a script's bytes
 
-pub answers_ran : (bytes script input : List ℕ) (tree : Tree) (past : Past) (lines : List (List ℕ)) → grammar bytes ≡ Ok tree → Accepts (run script input) tree → past.start ≡ start_of tree → IsRunOf tree past.history
-    → MainReturned (world (origin tree) past.history) → lines ≡ report_lines (declared_names tree) past.history (world_of past) → Answers bytes (run script input) (flat_map (λ line. line) lines) Done
-answers_ran bytes script input tree past lines reads accepts start is returned lines_are =
-    let same : flat_map (λ line. line) lines ≡ report tree past.history =
-    ap (λ (ls : List (List ℕ)). flat_map (λ line. line) ls) (lines_are ∙ ap (λ (b : Start). report_lines (declared_names tree) past.history (world (origin_of b) past.history)) start) in
-    subst (λ (text : List ℕ). Answers bytes (run script input) text Done) (sym same) (ran tree past.history reads accepts is returned)
+pub answers_ran : (bytes script input : List ℕ) (tree : Tree) (history : List Happened) (made : Report) → grammar bytes ≡ Ok tree → Accepts (run script input) tree → IsReportOf tree history made
+    → Answers bytes (run script input) (flat_map (λ line. line) made.lines) made.status
+answers_ran bytes script input tree history made reads accepts is =
+    let same : flat_map (λ line. line) made.lines ≡ report tree history = ap (λ (lines : List (List ℕ)). flat_map (λ line. line) lines) is.lines in
+    subst (λ (text : List ℕ). Answers bytes (run script input) text made.status) (sym same) (ran tree history reads accepts is.run is.status)
 
 pub answers_told : (bytes : List ℕ) (command : Command) (r : Refusal) (made : Answer) → IsRefused bytes command r → Tells made r → Answers bytes command (answer_text made) (answer_status made)
 answers_told bytes command r made cause tells =
@@ -50,16 +50,26 @@ answers_told bytes command r made cause tells =
 pub denied : (bytes : List ℕ) (e : ParseRefusal) (r : Refusal) → Denies e (grammar bytes) → e ≡ parse_refusal.Refused r → grammar bytes ≡ Err r
 denied bytes e r denies is = subst (λ (d : ParseRefusal). Denies d (grammar bytes)) is denies
 
--- an answer is what was asked for, or a refusal
-answers_status : {bytes text : List ℕ} {command : Command} {status : Status} → Answers bytes command text status → (status ≡ Done) ⊎ (status ≡ Refused)
-answers_status (refused r cause) = inr refl
-answers_status (ran tree history reads accepts is ended) = inl refl
-answers_status (checked tree reads) = inl refl
-answers_status (shown tree reads again) = inl refl
+-- a run ends as main ended
+run_status : (w : State) (status : Status) → IsStatusOf w status → (status ≡ Done) ⊎ (status ≡ Raised)
+run_status w Done ended = inl refl
+run_status w Raised ended = inr refl
+run_status w _ ended = absurd ended
 
-other : {status : Status} {A : Type 0} → (status ≡ Done) ⊎ (status ≡ Refused) → (status ≢ Done) → (status ≢ Refused) → A
-other (inl done) not_done not_refused = absurd (not_done done)
-other (inr is) not_done not_refused = absurd (not_refused is)
+ran_other : {status : Status} {A : Type 0} → (status ≡ Done) ⊎ (status ≡ Raised) → (status ≢ Done) → (status ≢ Raised) → A
+ran_other (inl done) not_done not_raised = absurd (not_done done)
+ran_other (inr raised) not_done not_raised = absurd (not_raised raised)
+
+-- an answer is what was asked for, or a refusal
+answers_status : {bytes text : List ℕ} {command : Command} {status : Status} → Answers bytes command text status → ((status ≡ Done) ⊎ (status ≡ Raised)) ⊎ (status ≡ Refused)
+answers_status (refused r cause) = inr refl
+answers_status (ran {status = status} tree history reads accepts is ended) = inl (run_status (world (origin tree) history) status ended)
+answers_status (checked tree reads) = inl (inl refl)
+answers_status (shown tree reads again) = inl (inl refl)
+
+other : {status : Status} {A : Type 0} → ((status ≡ Done) ⊎ (status ≡ Raised)) ⊎ (status ≡ Refused) → (status ≢ Done) → (status ≢ Raised) → (status ≢ Refused) → A
+other (inl how) not_done not_raised not_refused = ran_other how not_done not_raised
+other (inr is) not_done not_raised not_refused = absurd (not_refused is)
 
 -- what is refused is not served
 same_tree : (bytes : List ℕ) (a b : Tree) → grammar bytes ≡ Ok a → grammar bytes ≡ Ok b → a ≡ b
@@ -69,7 +79,7 @@ served_none : {bytes : List ℕ} {command : Command} {r : Refusal} → IsRefused
 served_none (no_script {r = r} first) served = let both : Ok served.tree ≡ Err r = sym served.reads ∙ first in cc
 served_none {bytes} (not_served tree reads unserved_tree) served =
     let same : served.tree ≡ tree = same_tree bytes served.tree tree served.reads reads in
-    false≢true (sym unserved_tree ∙ (ap is_served (sym same) ∙ served.accepts))
+    false≢true (sym unserved_tree ∙ (ap is_built (sym same) ∙ served.accepts))
 
 -- an answer that is no refusal serves the command
 answers_served : {bytes text : List ℕ} {command : Command} {status : Status} → Answers bytes command text status → status ≢ Refused → IsServed command bytes
@@ -78,11 +88,11 @@ answers_served (ran tree history reads accepts is ended) not_refused = record { 
 answers_served (checked tree reads) not_refused = record { tree = tree; reads = reads; accepts = tt }
 answers_served (shown tree reads again) not_refused = record { tree = tree; reads = reads; accepts = tt }
 
-answers_done : {bytes text : List ℕ} {command : Command} {status : Status} → Answers bytes command text status → IsServed command bytes → status ≡ Done
-answers_done (refused r cause) served = absurd (served_none cause served)
-answers_done (ran tree history reads accepts is ended) served = refl
-answers_done (checked tree reads) served = refl
-answers_done (shown tree reads again) served = refl
+answers_well : {bytes text : List ℕ} {command : Command} {status : Status} → Answers bytes command text status → IsServed command bytes → EndsWell command status
+answers_well (refused r cause) served = absurd (served_none cause served)
+answers_well (ran {status = status} tree history reads accepts is ended) served = run_status (world (origin tree) history) status ended
+answers_well (checked tree reads) served = refl
+answers_well (shown tree reads again) served = refl
 
 answers_refused : {bytes text : List ℕ} {command : Command} {status : Status} → Answers bytes command text status → (IsServed command bytes → ⊥) → status ≡ Refused
 answers_refused (refused r cause) none = refl
@@ -106,7 +116,7 @@ module _ (asked : Asked) (before now : Option (List ℕ)) (faults faults_now : �
   good_status (usage none) = (λ h. cc, λ h. cc)
   good_status (read_fault asks rose named) = (λ h. cc, λ h. cc)
   good_status (too_large asks longer) = (λ h. cc, λ h. cc)
-  good_status (answer asks given within answers) = (λ h. other (answers_status answers) (λ d. cc) (λ d. cc), λ h. other (answers_status answers) (λ d. cc) (λ d. cc))
+  good_status (answer asks given within answers) = (λ h. other (answers_status answers) (λ d. cc) (λ d. cc) (λ d. cc), λ h. other (answers_status answers) (λ d. cc) (λ d. cc) (λ d. cc))
 
   -- what a status says: either the text that is due with it was written whole
   pub data Told : Status → Type 0 where
@@ -134,8 +144,8 @@ module _ (asked : Asked) (before now : Option (List ℕ)) (faults faults_now : �
   answers_for : {a b : Command} {bytes text : List ℕ} {status : Status} → request asked.words ≡ Some a → request asked.words ≡ Some b → Answers bytes a text status → Answers bytes b text status
   answers_for {bytes = bytes} {text} {status} p q answers = subst (λ (c : Command). Answers bytes c text status) (same_command p q) answers
 
-  headline_of : {bytes text script input : List ℕ} {status : Status} → Answers bytes (run script input) text status → Gives (asked.held script) bytes → Appends before now text → status ≡ Done → Headline (asked.held script) before now status
-  headline_of (refused r cause) given appends is = absurd cc
+  headline_of : {bytes text script input : List ℕ} {status : Status} → Answers bytes (run script input) text status → Gives (asked.held script) bytes → Appends before now text → (status ≡ Done) ⊎ (status ≡ Raised) → Headline (asked.held script) before now status
+  headline_of (refused r cause) given appends is = ran_other is (λ d. cc) (λ d. cc)
   headline_of {bytes} (ran tree history reads accepts is_run ended) given appends is = record {
     bytes = bytes;
     given = given;
@@ -162,21 +172,39 @@ module _ (asked : Asked) (before now : Option (List ℕ)) (faults faults_now : �
   refused_of : {bytes text : List ℕ} {command : Command} {status : Status} → Answers bytes command text status → request asked.words ≡ Some command → Gives (asked.held (script_of command)) bytes → Appends before now text → status ≡ Refused
       → RefusedBy asked.words asked.held before now
   refused_of {bytes} {command = command} (refused r cause) asks given appends is = record { command = command; asks = asks; bytes = bytes; given = given; refusal = r; cause = cause; written = appends }
-  refused_of (ran tree history reads accepts is_run ended) asks given appends is = absurd cc
+  refused_of (ran {status = status} tree history reads accepts is_run ended) asks given appends is = ran_other (run_status (world (origin tree) history) status ended) (λ d. cc) (λ d. cc)
   refused_of (checked tree reads) asks given appends is = absurd cc
   refused_of (shown tree reads again) asks given appends is = absurd cc
 
-  due_headline : {text : List ℕ} {status : Status} → Due asked text status → Appends before now text → status ≡ Done → (script input : List ℕ) → request asked.words ≡ Some (run script input) → Headline (asked.held script) before now status
-  due_headline (usage none) appends is script input asks = absurd cc
-  due_headline (read_fault asks' rose named) appends is script input asks = absurd cc
-  due_headline (too_large asks' longer) appends is script input asks = absurd cc
+  due_headline : {text : List ℕ} {status : Status} → Due asked text status → Appends before now text → (status ≡ Done) ⊎ (status ≡ Raised) → (script input : List ℕ) → request asked.words ≡ Some (run script input) → Headline (asked.held script) before now status
+  due_headline (usage none) appends is script input asks = ran_other is (λ d. cc) (λ d. cc)
+  due_headline (read_fault asks' rose named) appends is script input asks = ran_other is (λ d. cc) (λ d. cc)
+  due_headline (too_large asks' longer) appends is script input asks = ran_other is (λ d. cc) (λ d. cc)
   due_headline (answer {bytes = bytes} asks' given within answers) appends is script input asks = headline_of (answers_for asks' asks answers) (given_for bytes asks' asks given) appends is
 
-  pub told_headline : {status : Status} → Told status → status ≡ Done → (script input : List ℕ) → request asked.words ≡ Some (run script input) → Headline (asked.held script) before now status
+  pub told_headline : {status : Status} → Told status → (status ≡ Done) ⊎ (status ≡ Raised) → (script input : List ℕ) → request asked.words ≡ Some (run script input) → Headline (asked.held script) before now status
   told_headline (told_whole due appends) is = due_headline due appends is
-  told_headline (told_fault due front rose) is = absurd cc
-  told_headline (told_memory due front) is = absurd cc
-  told_headline (told_nothing none) is = absurd cc
+  told_headline (told_fault due front rose) is = ran_other is (λ d. cc) (λ d. cc)
+  told_headline (told_memory due front) is = ran_other is (λ d. cc) (λ d. cc)
+  told_headline (told_nothing none) is = ran_other is (λ d. cc) (λ d. cc)
+
+  raised_of : {bytes text : List ℕ} {command : Command} {status : Status} → Answers bytes command text status → request asked.words ≡ Some command → status ≡ Raised → AsksRun asked.words
+  raised_of (refused r cause) asks is = absurd cc
+  raised_of (ran {script} {input} tree history reads accepts is_run ended) asks is = record { script = script; input = input; asks = asks }
+  raised_of (checked tree reads) asks is = absurd cc
+  raised_of (shown tree reads again) asks is = absurd cc
+
+  due_raised : {text : List ℕ} {status : Status} → Due asked text status → status ≡ Raised → AsksRun asked.words
+  due_raised (usage none) is = absurd cc
+  due_raised (read_fault asks rose named) is = absurd cc
+  due_raised (too_large asks longer) is = absurd cc
+  due_raised (answer asks given within answers) is = raised_of answers asks is
+
+  pub told_raised : {status : Status} → Told status → status ≡ Raised → AsksRun asked.words
+  told_raised (told_whole due appends) is = due_raised due is
+  told_raised (told_fault due front rose) is = absurd cc
+  told_raised (told_memory due front) is = absurd cc
+  told_raised (told_nothing none) is = absurd cc
 
   due_checked : {text : List ℕ} {status : Status} → Due asked text status → Appends before now text → status ≡ Done → (script : List ℕ) → request asked.words ≡ Some (check script) → CheckedBy (asked.held script) before now
   due_checked (usage none) appends is script asks = absurd cc
@@ -206,7 +234,7 @@ module _ (asked : Asked) (before now : Option (List ℕ)) (faults faults_now : �
   due_usage (usage none) appends is = (none, appends)
   due_usage (read_fault asks rose named) appends is = absurd cc
   due_usage (too_large asks longer) appends is = absurd cc
-  due_usage (answer asks given within answers) appends is = other (answers_status answers) (λ d. cc) (λ d. cc)
+  due_usage (answer asks given within answers) appends is = other (answers_status answers) (λ d. cc) (λ d. cc) (λ d. cc)
 
   pub told_usage : {status : Status} → Told status → status ≡ Usage → (request asked.words ≡ None) × Appends before now (codes "usage\n")
   told_usage (told_whole due appends) is = due_usage due appends is
@@ -230,7 +258,7 @@ module _ (asked : Asked) (before now : Option (List ℕ)) (faults faults_now : �
   due_read_fault (usage none) appends is = absurd cc
   due_read_fault (read_fault {command} asks rose named) appends is = record { command = command; asks = asks; rose = rose; named = named; written = appends }
   due_read_fault (too_large asks longer) appends is = absurd cc
-  due_read_fault (answer asks given within answers) appends is = other (answers_status answers) (λ d. cc) (λ d. cc)
+  due_read_fault (answer asks given within answers) appends is = other (answers_status answers) (λ d. cc) (λ d. cc) (λ d. cc)
 
   pub told_read_fault : {status : Status} → Told status → status ≡ ReadFault → ReadFaultBy asked.words asked.faults asked.faults_now asked.failed before now
   told_read_fault (told_whole due appends) is = due_read_fault due appends is
@@ -242,7 +270,7 @@ module _ (asked : Asked) (before now : Option (List ℕ)) (faults faults_now : �
   due_too_large (usage none) appends is = absurd cc
   due_too_large (read_fault asks rose named) appends is = absurd cc
   due_too_large (too_large {command} asks longer) appends is = record { command = command; asks = asks; longer = longer; written = appends }
-  due_too_large (answer asks given within answers) appends is = other (answers_status answers) (λ d. cc) (λ d. cc)
+  due_too_large (answer asks given within answers) appends is = other (answers_status answers) (λ d. cc) (λ d. cc) (λ d. cc)
 
   pub told_too_large : {status : Status} → Told status → status ≡ TooLarge → TooLargeBy asked.words asked.held before now
   told_too_large (told_whole due appends) is = due_too_large due appends is
@@ -288,11 +316,11 @@ module _ (asked : Asked) (before now : Option (List ℕ)) (faults faults_now : �
         omega arith
 
     module _ (calm : Rose asked.faults asked.faults_now → ⊥) where
-      pub told_accepted : {status : Status} → Told status → length bytes ≤ MOST_BYTES → (Rose faults faults_now → ⊥) → IsServed command bytes → (status ≡ Done) ⊎ (status ≡ OutOfMemory)
+      pub told_accepted : {status : Status} → Told status → length bytes ≤ MOST_BYTES → (Rose faults faults_now → ⊥) → IsServed command bytes → EndsWell command status ⊎ (status ≡ OutOfMemory)
       told_accepted (told_whole (usage none) appends) within sound served = absurd cc
       told_accepted (told_whole (read_fault asks' rose named) appends) within sound served = absurd (calm rose)
       told_accepted (told_whole (too_large asks' longer) appends) within sound served = absurd (not_longer within asks' longer)
-      told_accepted (told_whole (answer asks' given fits answers) appends) within sound served = inl (answers_done (answers_there asks' given answers) served)
+      told_accepted (told_whole (answer asks' given fits answers) appends) within sound served = inl (answers_well (answers_there asks' given answers) served)
       told_accepted (told_fault due front rose) within sound served = absurd (sound rose)
       told_accepted (told_memory due front) within sound served = inr refl
       told_accepted (told_nothing none) within sound served = inr refl

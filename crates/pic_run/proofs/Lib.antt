@@ -1,6 +1,5 @@
-pub mod Running
-pub mod Serving
-pub mod Whole
+pub mod Opening
+pub mod Closing
 pub mod Reports
 pub mod Writing
 pub mod Calls

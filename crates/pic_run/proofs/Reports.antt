@@ -1,15 +1,20 @@
 -- The lines of a report, gathered in loops: what the rest of a list adds.
 use Rattle.std.proofs.Common.{◌≡◌, ◌≢◌, ℕ, zero, suc, ◌+◌, ◌-◌, ◌<◌, ◌≤◌, ◌==◌, cond, Bool, true, false, Option, Some, None, List, [], ◌∷◌, ◌++◌, length, drop, map, get_or, replicate, codes, refl, sym, ap, subst, ◌∙◌, arith, append_assoc, append-nil}
 use Rattle.std.proofs.lemmas.List.{drop_more, drop_all, length-set, length-replicate, get_or-replicate, get_or-set_same, get_or-set_other}
+use Rattle.std.proofs.lemmas.Option.{slice_get_read}
 use Rattle.std.proofs.lemmas.Bool.{false≢true}
 use Rattle.std.proofs.lemmas.Bool.Decides.{nat_tests}
 use Rattle.pic_machine.specs.declared.entry.Call.{Call}
 use Rattle.pic_machine.specs.declared.entry.Call.TheVariants as call
+use Rattle.pic_machine.specs.declared.entry.Entry.{Entry}
 use Rattle.pic_machine.specs.declared.entry.Happened.{Happened}
 use Rattle.pic_machine.specs.declared.state.FiberState.{FiberState}
 use Rattle.pic_machine.specs.declared.state.CompState.{CompState}
-use Rattle.pic_run.specs.Report.{comp_name, said_line, says_lines, fiber_line, fiber_lines, fibers_lines, comp_line, comps_lines, completes, completer}
-use Rattle.pic_run.specs.Lines.{said, said_by, first_of, noted, noted_if}
+use Rattle.script_tree.specs.Tree.{Tree}
+use Rattle.fiber_body.specs.Shown.{Shown as Body}
+use Rattle.pic_run.specs.Over.{AreBodies}
+use Rattle.pic_run.specs.Report.{comp_name, said_line, says_of, fiber_lines, fibers_lines, comp_line, comps_lines, completes, completer}
+use Rattle.pic_run.specs.Lines.{body_lines, said, first_of, noted, noted_if}
 
 -- ---- what a fiber said
 
@@ -17,42 +22,48 @@ abbrev pub line_of : Option ℕ → List (List ℕ)
 line_of None = []
 line_of (Some value) = said_line value ∷ []
 
-says_step : (h : Happened) (hs : List Happened) (f : ℕ) (b : Bool) (c : Call) → (h.entry.fiber == f) ≡ b → h.entry.call ≡ c
-    → says_lines (h ∷ hs) f ≡ line_of (cond b (said c) None) ++ says_lines hs f
-says_step h hs f false c p q = rw p refl
-says_step h hs f true call.Turn p q = rw (p, q) refl
-says_step h hs f true (call.Complete comp o) p q = rw (p, q) refl
-says_step h hs f true (call.Peek comp) p q = rw (p, q) refl
-says_step h hs f true (call.Say v) p q = rw (p, q) refl
-says_step h hs f true call.Yield p q = rw (p, q) refl
-says_step h hs f true (call.Fork text value) p q = rw (p, q) refl
-says_step h hs f true (call.End o) p q = rw (p, q) refl
+says_step : (e : Entry) (es : List Entry) (c : Call) → e.call ≡ c → says_of (e ∷ es) ≡ line_of (said c) ++ says_of es
+says_step e es call.Turn is = rw is refl
+says_step e es (call.Complete comp o) is = rw is refl
+says_step e es (call.Peek comp) is = rw is refl
+says_step e es (call.Say v) is = rw is refl
+says_step e es call.Yield is = rw is refl
+says_step e es (call.Fork text value) is = rw is refl
+says_step e es (call.End o) is = rw is refl
 
-pub says_on : (lines all : List (List ℕ)) (hs : List Happened) (i f : ℕ) (h : Happened) → i < length hs → h ≡ get_or hs i h
-    → lines ++ says_lines (drop i hs) f ≡ all → (lines ++ line_of (said_by f h)) ++ says_lines (drop (i + 1) hs) f ≡ all
-says_on lines all hs i f h within is so_far =
-    let rest : drop i hs ≡ h ∷ drop (i + 1) hs = drop_more hs i h within ∙ ap (λ (x : Happened). x ∷ drop (i + 1) hs) (sym is) in
-    append_assoc lines (line_of (said_by f h)) (says_lines (drop (i + 1) hs) f)
-    ∙ (ap (λ (w : List (List ℕ)). lines ++ w) (sym (says_step h (drop (i + 1) hs) f (h.entry.fiber == f) h.entry.call refl refl) ∙ ap (λ (w : List Happened). says_lines w f) (sym rest)) ∙ so_far)
+pub says_on : (lines all : List (List ℕ)) (es : List Entry) (i : ℕ) (e : Entry) → i < length es → e ≡ get_or es i e
+    → lines ++ says_of (drop i es) ≡ all → (lines ++ line_of (said e.call)) ++ says_of (drop (i + 1) es) ≡ all
+says_on lines all es i e within is so_far =
+    let rest : drop i es ≡ e ∷ drop (i + 1) es = drop_more es i e within ∙ ap (λ (x : Entry). x ∷ drop (i + 1) es) (sym is) in
+    append_assoc lines (line_of (said e.call)) (says_of (drop (i + 1) es))
+    ∙ (ap (λ (w : List (List ℕ)). lines ++ w) (sym (says_step e (drop (i + 1) es) e.call refl) ∙ ap (λ (w : List Entry). says_of w) (sym rest)) ∙ so_far)
 
-pub says_end : (lines all : List (List ℕ)) (hs : List Happened) (i f : ℕ) → length hs ≡ i → lines ++ says_lines (drop i hs) f ≡ all → lines ≡ all
-says_end lines all hs i f end so_far =
-    sym (append-nil lines) ∙ (ap (λ (w : List Happened). lines ++ says_lines w f) (sym (drop_all i hs (omega arith))) ∙ so_far)
+pub says_end : (lines all : List (List ℕ)) (es : List Entry) (i : ℕ) → length es ≡ i → lines ++ says_of (drop i es) ≡ all → lines ≡ all
+says_end lines all es i end so_far =
+    sym (append-nil lines) ∙ (ap (λ (w : List Entry). lines ++ says_of w) (sym (drop_all i es (omega arith))) ∙ so_far)
 
 -- ---- fibers and computations
 
-pub fibers_on : (lines all : List (List ℕ)) (hs : List Happened) (states : List FiberState) (i : ℕ) (s : FiberState) → i < length states → s ≡ get_or states i s
-    → lines ++ fibers_lines hs (i + 1) (drop i states) ≡ all → ((lines ++ fiber_line (i + 1) s ∷ []) ++ says_lines hs (i + 1)) ++ fibers_lines hs ((i + 1) + 1) (drop (i + 1) states) ≡ all
-fibers_on lines all hs states i s within is so_far =
-    let rest : drop i states ≡ s ∷ drop (i + 1) states = drop_more states i s within ∙ ap (λ (x : FiberState). x ∷ drop (i + 1) states) (sym is) in
-    let one : (lines ++ fiber_line (i + 1) s ∷ []) ++ says_lines hs (i + 1) ≡ lines ++ fiber_lines hs (i + 1) s = append_assoc lines (fiber_line (i + 1) s ∷ []) (says_lines hs (i + 1)) in
-    ap (λ (w : List (List ℕ)). w ++ fibers_lines hs ((i + 1) + 1) (drop (i + 1) states)) one
-    ∙ (append_assoc lines (fiber_lines hs (i + 1) s) (fibers_lines hs ((i + 1) + 1) (drop (i + 1) states))
-    ∙ (ap (λ (w : List FiberState). lines ++ fibers_lines hs (i + 1) w) (sym rest) ∙ so_far))
+told_lines : (script : Tree) (hs : List Happened) (i : ℕ) (s : FiberState) (body : Body) (bodies : List Body) → AreBodies script hs bodies → i < length bodies → body ≡ get_or bodies i body
+    → body_lines script (i + 1) s body ≡ fiber_lines script hs (i + 1) s
+told_lines script hs i s body bodies are within is =
+    let told = are i body (slice_get_read bodies (length bodies) i body refl within is) in
+    rw (told.birth, told.noted) refl
 
-pub fibers_end : (lines all : List (List ℕ)) (hs : List Happened) (states : List FiberState) (i : ℕ) → length states ≤ i → lines ++ fibers_lines hs (i + 1) (drop i states) ≡ all → lines ≡ all
-fibers_end lines all hs states i end so_far =
-    sym (append-nil lines) ∙ (ap (λ (w : List FiberState). lines ++ fibers_lines hs (i + 1) w) (sym (drop_all i states end)) ∙ so_far)
+pub fibers_on : (script : Tree) (lines now all : List (List ℕ)) (hs : List Happened) (states : List FiberState) (bodies : List Body) (i : ℕ) (s : FiberState) (body : Body) → AreBodies script hs bodies → length bodies ≡ length states
+    → i < length states → s ≡ get_or states i s → body ≡ get_or bodies i body → lines ++ fibers_lines script hs (i + 1) (drop i states) ≡ all
+    → now ≡ lines ++ body_lines script (i + 1) s body → now ++ fibers_lines script hs ((i + 1) + 1) (drop (i + 1) states) ≡ all
+fibers_on script lines now all hs states bodies i s body are count within is of_body so_far grown =
+    let rest : drop i states ≡ s ∷ drop (i + 1) states = drop_more states i s within ∙ ap (λ (x : FiberState). x ∷ drop (i + 1) states) (sym is) in
+    let one : now ≡ lines ++ fiber_lines script hs (i + 1) s =
+    grown ∙ ap (λ (w : List (List ℕ)). lines ++ w) (told_lines script hs i s body bodies are (omega (arith, count, within)) of_body) in
+    ap (λ (w : List (List ℕ)). w ++ fibers_lines script hs ((i + 1) + 1) (drop (i + 1) states)) one
+    ∙ (append_assoc lines (fiber_lines script hs (i + 1) s) (fibers_lines script hs ((i + 1) + 1) (drop (i + 1) states))
+    ∙ (ap (λ (w : List FiberState). lines ++ fibers_lines script hs (i + 1) w) (sym rest) ∙ so_far))
+
+pub fibers_end : (script : Tree) (lines all : List (List ℕ)) (hs : List Happened) (states : List FiberState) (i : ℕ) → length states ≤ i → lines ++ fibers_lines script hs (i + 1) (drop i states) ≡ all → lines ≡ all
+fibers_end script lines all hs states i end so_far =
+    sym (append-nil lines) ∙ (ap (λ (w : List FiberState). lines ++ fibers_lines script hs (i + 1) w) (sym (drop_all i states end)) ∙ so_far)
 
 pub comps_on : (names : List (List ℕ)) (lines all : List (List ℕ)) (hs : List Happened) (states : List CompState) (i : ℕ) (s : CompState) → i < length states → s ≡ get_or states i s
     → lines ++ comps_lines names hs i (drop i states) ≡ all → (lines ++ comp_line names hs i s ∷ []) ++ comps_lines names hs (i + 1) (drop (i + 1) states) ≡ all

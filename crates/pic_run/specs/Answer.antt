@@ -9,17 +9,17 @@ use Rattle.pic_run.specs.declared.output.WriteRefusal.TheVariants as refusal
 use Rattle.script_tree.specs.declared.refusal.Refused.{Refused as Refusal}
 use Rattle.pic_run.specs.Refusal.{refusal_text}
 use Rattle.pic_run.specs.declared.status.Status.{Status}
-use Rattle.pic_run.specs.declared.status.Status.TheVariants.{Done, Refused, WriteFault, OutOfMemory}
+use Rattle.pic_run.specs.declared.status.Status.TheVariants.{Refused, WriteFault, OutOfMemory}
 
 abbrev pub answer_text : Answer → List ℕ
 answer_text (Text text status) = text.now
 answer_text (Made text status) = string_bytes text
-answer_text (Report lines) = flat_map (λ line. line) lines
+answer_text (Report made) = flat_map (λ line. line) made.lines
 
 abbrev pub answer_status : Answer → Status
 answer_status (Text text status) = status
 answer_status (Made text status) = status
-answer_status (Report lines) = Done
+answer_status (Report made) = made.status
 
 -- the status of a call whose text was written so
 abbrev pub ended_status : Result (Unit {0}) WriteRefusal → Status → Status

@@ -38,15 +38,15 @@ asked_of words held faults faults_now failed = record {
 }
 
 -- what the bytes of a script's file have to answer: how they are refused, or what the command asks
--- for: the report of one run, with main's end as the status; that they are a script; or its
+-- for: the report of one run, with the status that tells how main ended; that they are a script; or its
 -- canonical text
 pub data Answers (bytes : List ℕ) : Command → List ℕ → Status → Type 0 where
   refused : {command : Command} (r : Refusal) → IsRefused bytes command r
       → Answers bytes command (refusal_text r) Refused
-  ran : {script input : List ℕ} (tree : Tree) (history : List Happened) → grammar bytes ≡ Ok tree
-      → Accepts (run script input) tree → IsRunOf tree history
-      → IsStatusOf (world (origin tree) history) Done
-      → Answers bytes (run script input) (report tree history) Done
+  ran : {script input : List ℕ} {status : Status} (tree : Tree) (history : List Happened)
+      → grammar bytes ≡ Ok tree → Accepts (run script input) tree → IsRunOf tree history
+      → IsStatusOf (world (origin tree) history) status
+      → Answers bytes (run script input) (report tree history) status
   checked : {script : List ℕ} (tree : Tree) → grammar bytes ≡ Ok tree
       → Answers bytes (check script) (codes "ok\n") Done
   shown : {script : List ℕ} (tree : Tree) → grammar bytes ≡ Ok tree → grammar (canon tree) ≡ Ok tree

@@ -1,4 +1,4 @@
--- The headline: what a call that answers Done says of the script, the history and the report.
+-- The headline: what a call that answers Done or Raised says of the script, the history and the report.
 use Rattle.std.specs.Prelude.{◌≡◌, ℕ, IsTrue, Option, Some, Ok, List, ◌⊎◌, [], codes}
 use Rattle.std.specs.Io.KnownBytes.{Appends}
 use Rattle.pic_io.specs.Faults.{Rose}
@@ -11,12 +11,13 @@ use Rattle.pic_machine.specs.Final.{IsFinal}
 use Rattle.pic_machine.specs.Order.{IsInFifoOrder}
 use Rattle.pic_run.specs.declared.limits.TheConstants.{MOST_BYTES}
 use Rattle.pic_run.specs.declared.status.Status.{Status}
-use Rattle.pic_run.specs.Meaning.{FollowsText}
+use Rattle.fiber_body.specs.Follows.{FollowsText}
+use Rattle.fiber_poll.specs.Built.{is_built}
 use Rattle.pic_run.specs.Run.{origin}
 use Rattle.pic_run.specs.Report.{report}
-use Rattle.pic_run.specs.Request.{Command, script_of, request}
+use Rattle.pic_run.specs.declared.status.Status.TheVariants.{Done, Raised}
+use Rattle.pic_run.specs.Request.{Command, run, check, show, script_of, request}
 use Rattle.pic_run.specs.Refusal.{IsRefused, refusal_text}
-use Rattle.pic_run.specs.Served.{is_served}
 use Rattle.script_tree.specs.declared.refusal.Refused.{Refused as Refusal}
 use Rattle.script_tree.specs.Tree.{Tree}
 use Rattle.script_tree.specs.Grammar.{grammar}
@@ -31,7 +32,7 @@ pub record Headline (held : Held) (before now : Option (List ℕ)) (status : Sta
   pub given : Gives held bytes
   pub script : Tree
   pub reads : grammar bytes ≡ Ok script
-  pub served : IsTrue (is_served script)
+  pub served : IsTrue (is_built script)
   pub history : List Happened
   -- it is a legal history of the machine from the script's start
   pub legal : IsLegal (origin script) history
@@ -46,6 +47,18 @@ pub record Headline (held : Held) (before now : Option (List ℕ)) (status : Sta
   pub ended : IsStatusOf (world (origin script) history) status
   -- its turns stand in the FIFO order
   pub ordered : IsInFifoOrder history
+
+-- the words ask for a run
+pub record AsksRun (words : List (List ℕ)) : Type 0 where
+  pub script : List ℕ
+  pub input : List ℕ
+  pub asks : request words ≡ Some (run script input)
+
+-- the statuses of a call that did what the command asks for: a run ends as main ended
+abbrev pub EndsWell : Command → Status → Type 0
+EndsWell (run script input) status = (status ≡ Done) ⊎ (status ≡ Raised)
+EndsWell (check script) status = status ≡ Done
+EndsWell (show script) status = status ≡ Done
 
 -- The bytes of the script's file are a script, and the sink took the line that says so.
 pub record CheckedBy (held : Held) (before now : Option (List ℕ)) : Type 0 where

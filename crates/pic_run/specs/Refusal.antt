@@ -4,7 +4,7 @@ use Rattle.script_tree.specs.declared.refusal.Refused.{Refused}
 use Rattle.script_tree.specs.Grammar.{grammar}
 use Rattle.script_tree.specs.Tree.{Tree}
 use Rattle.pic_run.specs.Request.{Command, run, check, show}
-use Rattle.pic_run.specs.Served.{is_served}
+use Rattle.fiber_poll.specs.Built.{is_built}
 
 -- the line, and the number of the cause
 abbrev pub refusal_text : Refused → List ℕ
@@ -19,12 +19,12 @@ unserved = record { line = 0; cause = 0 }
 -- the grammar's first fault, or they are one that a run doesn't serve yet.
 pub data IsRefused (bytes : List ℕ) : Command → Refused → Type 0 where
   no_script : {command : Command} {r : Refused} → grammar bytes ≡ Err r → IsRefused bytes command r
-  not_served : {script input : List ℕ} (tree : Tree) → grammar bytes ≡ Ok tree → IsFalse (is_served tree)
+  not_served : {script input : List ℕ} (tree : Tree) → grammar bytes ≡ Ok tree → IsFalse (is_built tree)
       → IsRefused bytes (run script input) unserved
 
 -- the command can be done with this script
 abbrev pub Accepts : Command → Tree → Type 0
-Accepts (run script input) tree = IsTrue (is_served tree)
+Accepts (run script input) tree = IsTrue (is_built tree)
 Accepts (check script) tree = Unit {0}
 Accepts (show script) tree = Unit {0}
 

@@ -4,9 +4,11 @@ use Rattle.std.specs.Prelude.{ℕ, ◌+◌, ◌==◌, if◌then◌else◌, Bool,
 use Rattle.std.specs.List.{flat_map}
 use Rattle.pic_base.specs.declared.outcome.Outcome.TheVariants.{Cancelled}
 use Rattle.pic_base.specs.Outcome.{outcome_text}
+use Rattle.pic_machine.specs.declared.birth.Birth.{Birth}
 use Rattle.pic_machine.specs.declared.entry.Call.{Call}
 use Rattle.pic_machine.specs.declared.entry.Call.TheVariants.{Say, Complete}
 use Rattle.pic_machine.specs.declared.entry.CompleteReply.TheVariants.{Won}
+use Rattle.pic_machine.specs.declared.entry.Entry.{Entry}
 use Rattle.pic_machine.specs.declared.entry.Happened.{Happened}
 use Rattle.pic_machine.specs.declared.entry.Reply.{Reply}
 use Rattle.pic_machine.specs.declared.entry.Reply.TheVariants.{Completed}
@@ -15,9 +17,10 @@ use Rattle.pic_machine.specs.declared.state.CompState.TheVariants.{Running, Done
 use Rattle.pic_machine.specs.declared.state.FiberState.{FiberState}
 use Rattle.pic_machine.specs.declared.state.FiberState.TheVariants.{Live, Ended}
 use Rattle.pic_machine.specs.State.{State}
-use Rattle.pic_machine.specs.History.{world}
+use Rattle.pic_machine.specs.History.{birth_in, world}
 use Rattle.pic_machine.specs.Log.{log, visible}
 use Rattle.script_tree.specs.declared.program.Decl.{Decl}
+use Rattle.script_tree.specs.declared.program.Text.{Text}
 use Rattle.script_tree.specs.Tree.{Tree}
 use Rattle.pic_run.specs.Run.{origin}
 
@@ -28,10 +31,22 @@ abbrev pub fiber_state_text : FiberState → List ℕ
 fiber_state_text Live = codes "live"
 fiber_state_text (Ended outcome) = outcome_text outcome
 
--- the fiber's number, the name of its text (so far main's) and how it stands
-abbrev pub fiber_line : ℕ → FiberState → List ℕ
-fiber_line f state =
-    codes "fiber " ++ (decimal f ++ (codes " main " ++ (fiber_state_text state ++ codes "\n")))
+-- the names of the script's texts, in order
+abbrev pub text_names : Tree → List (List ℕ)
+text_names script = map (λ (t : Text). t.name) script.texts
+
+-- the name of the text that a fiber of this birth runs
+abbrev pub name_of_birth : List (List ℕ) → Option Birth → List ℕ
+name_of_birth names None = codes "-"
+name_of_birth names (Some birth) = slice_index_or names birth.text (codes "-")
+
+abbrev pub fiber_name : Tree → List Happened → ℕ → List ℕ
+fiber_name script hs f = name_of_birth (text_names script) (birth_in (origin script) hs f)
+
+-- the fiber's number, the name of its text and how it stands
+abbrev pub fiber_line : List ℕ → ℕ → FiberState → List ℕ
+fiber_line name f state = codes "fiber " ++ (decimal f
+    ++ (codes " " ++ (name ++ (codes " " ++ (fiber_state_text state ++ codes "\n")))))
 
 abbrev pub said_line : ℕ → List ℕ
 said_line value = codes "  say " ++ (decimal value ++ codes "\n")
@@ -40,18 +55,23 @@ abbrev pub said_lines : Call → List (List ℕ)
 said_lines (Say value) = said_line value ∷ []
 said_lines _ = []
 
+-- a line for each value that is said by these entries, in order
+abbrev pub says_of : List Entry → List (List ℕ)
+says_of es = flat_map (λ e. said_lines e.call) es
+
 -- a line for each value that the fiber said, in order
 abbrev pub says_lines : List Happened → ℕ → List (List ℕ)
-says_lines hs f = flat_map (λ e. said_lines e.call) (visible (log hs f))
+says_lines hs f = says_of (visible (log hs f))
 
 -- a fiber's line, and what it said
-abbrev pub fiber_lines : List Happened → ℕ → FiberState → List (List ℕ)
-fiber_lines hs f state = fiber_line f state ∷ says_lines hs f
+abbrev pub fiber_lines : Tree → List Happened → ℕ → FiberState → List (List ℕ)
+fiber_lines script hs f state = fiber_line (fiber_name script hs f) f state ∷ says_lines hs f
 
 -- the lines of the fibers from number f on
-abbrev pub fibers_lines : List Happened → ℕ → List FiberState → List (List ℕ)
-fibers_lines hs f [] = []
-fibers_lines hs f (state ∷ states) = fiber_lines hs f state ++ fibers_lines hs (f + 1) states
+abbrev pub fibers_lines : Tree → List Happened → ℕ → List FiberState → List (List ℕ)
+fibers_lines script hs f [] = []
+fibers_lines script hs f (state ∷ states) =
+    fiber_lines script hs f state ++ fibers_lines script hs (f + 1) states
 
 -- ---- computations
 
@@ -93,17 +113,17 @@ abbrev pub run_line : Option FiberState → List ℕ
 run_line (Some (Ended (Cancelled code))) = codes "run raised " ++ (decimal code ++ codes "\n")
 run_line _ = codes "run done\n"
 
--- the lines of a report of this world, to which this history led
-abbrev pub report_lines : List (List ℕ) → List Happened → State → List (List ℕ)
-report_lines names hs w = (codes "picos report 1\n" ∷ [])
-    ++ (fibers_lines hs 1 w.fibers
-    ++ (comps_lines names hs 0 w.comps
-    ++ (codes "clock 0\n" ∷ (run_line (slice_get w.fibers 0) ∷ []))))
-
 -- the names of the declared computations, in order
 abbrev pub declared_names : Tree → List (List ℕ)
 declared_names script = map (λ (d : Decl). d.name) script.decls
 
+-- the lines of a report of this world, to which this history of the script led
+abbrev pub report_lines : Tree → List Happened → State → List (List ℕ)
+report_lines script hs w = (codes "picos report 1\n" ∷ [])
+    ++ (fibers_lines script hs 1 w.fibers
+    ++ (comps_lines (declared_names script) hs 0 w.comps
+    ++ (codes "clock 0\n" ∷ (run_line (slice_get w.fibers 0) ∷ []))))
+
 -- the report of a history of the script
 abbrev pub report : Tree → List Happened → List ℕ
-report script hs = flat_map (λ line. line) (report_lines (declared_names script) hs (world (origin script) hs))
+report script hs = flat_map (λ line. line) (report_lines script hs (world (origin script) hs))

@@ -1,24 +1,18 @@
 -- The runs of a script: which histories of the machine are one.
-use Rattle.std.specs.Prelude.{◌≡◌, ℕ, ◌+◌, Some, List, length}
+use Rattle.std.specs.Prelude.{◌≡◌, ℕ, Some, List}
 use Rattle.pic_machine.specs.declared.birth.Birth.{Birth}
 use Rattle.pic_machine.specs.declared.entry.Happened.{Happened}
-use Rattle.pic_machine.specs.declared.world.Start.{Start}
 use Rattle.pic_machine.specs.History.{Origin, origin_of, IsLegal, birth_in, world}
 use Rattle.pic_machine.specs.Log.{log}
 use Rattle.pic_machine.specs.Final.{IsFinal}
 use Rattle.pic_machine.specs.Order.{IsInFifoOrder}
 use Rattle.pic_run.specs.declared.limits.TheConstants.{LIMITS}
 use Rattle.script_tree.specs.Tree.{Tree}
-use Rattle.pic_run.specs.Texts.{main_text}
-use Rattle.pic_run.specs.Meaning.{FollowsText}
-
--- the root and the declared computations stand (so far nothing else is declared), and main runs the
--- main text
-abbrev pub start_of : Tree → Start
-start_of script = record { comps = length script.decls + 1; text = main_text script; limits = LIMITS }
+use Rattle.fiber_body.specs.Follows.{FollowsText}
+use Rattle.fiber_body.specs.Starts.{start_of}
 
 abbrev pub origin : Tree → Origin
-origin script = origin_of (start_of script)
+origin script = origin_of (start_of script LIMITS)
 
 -- one legal history of the machine from the script's start, in which each fiber that was made follows
 -- its text from its birth, which ends in a final world, and whose turns stand in the FIFO order

@@ -1,23 +1,23 @@
 //! Makes ready what a call has to write.
 ghost use Rattle.std.specs.Prelude.{◌≡◌, ◌≤◌, ℕ, List, Some, None, Ok, length, map, string_bytes, IfOk};
 ghost use Rattle.script_tree.specs.Grammar.{grammar};
-ghost use Rattle.script_tree.specs.WellFormed.{IsWellFormed};
 ghost use Rattle.pic_run.specs.Request.{command_of, request as asked_for, run};
 ghost use Rattle.pic_run.specs.Answer.{Tells, answer_status, answer_text};
 ghost use Rattle.pic_run.specs.Due.{Answers, Due, asked_of};
 
 use crate::limits::MOST_BYTES;
-use crate::report::{Lines, report_of};
+use crate::report::{Report, report_of};
 use crate::request::{Mode, Request, RequestRefusal, request_of};
 use crate::run::run_program;
-use crate::served::is_served;
 use crate::status::Status;
+use fiber_poll::built;
 use pic_base::Memory;
 use pic_io::{Files, ReadRefusal};
 use script_tree::{ParseRefusal, Program, Refused, parse, show};
 use std::alloc::Global;
+use std::sync::Arc;
 
-/// How a script is refused that a run doesn't serve yet.
+/// How a script is refused of which not all forms are run yet.
 const UNSERVED: Refused = Refused { line: 0, cause: 0 };
 
 /// A text to write, and the status of a call that has written it whole.
@@ -28,7 +28,7 @@ pub(crate) enum Answer {
     /// A text that was made for this call.
     Made(String, Status),
     /// The report of a run.
-    Report(Lines),
+    Report(Report),
 }
 
 /// What a call with these words has to write.
@@ -79,36 +79,35 @@ fn answer_of_text(alloc: Global, request: &Request, bytes: &[u8]) -> Result<Answ
         Answers bytes.now (command_of request.now) (answer_text answer) (answer_status answer)) }
 {
     match parse(alloc, bytes) {
-        Ok(program) => answer_of_program(alloc, request, &program),
+        Ok(program) => answer_of_program(alloc, request, program),
         Err(ParseRefusal::Refused(refused)) => refusal(alloc, refused),
         Err(ParseRefusal::Memory) => Err(Memory),
     }
 }
 
 /// What a call has to write that asks so of a script.
-fn answer_of_program(alloc: Global, request: &Request, program: &Program) -> Result<Answer, Memory>
-    requires { IsWellFormed program.now }
-    ensures { IfOk result (λ answer. (bytes : List ℕ) → grammar bytes ≡ Ok program.now
+fn answer_of_program(alloc: Global, request: &Request, program: Program) -> Result<Answer, Memory>
+    ensures { IfOk result (λ answer. (bytes : List ℕ) → grammar bytes ≡ Ok program
         → Answers bytes (command_of request.now) (answer_text answer) (answer_status answer)) }
 {
     match request.mode {
         Mode::Run { .. } => answer_of_run(alloc, program),
         Mode::Check { .. } => Ok(Answer::Text("ok\n", Status::Done)),
-        Mode::Show { .. } => Ok(Answer::Made(show(alloc, program)?, Status::Done)),
+        Mode::Show { .. } => Ok(Answer::Made(show(alloc, &program)?, Status::Done)),
     }
 }
 
-/// The report of a run, where one serves the script.
-fn answer_of_run(alloc: Global, program: &Program) -> Result<Answer, Memory>
-    requires { IsWellFormed program.now }
-    ensures { IfOk result (λ answer. (bytes script input : List ℕ) → grammar bytes ≡ Ok program.now
+/// The report of a run, where all forms of the script are run so far.
+fn answer_of_run(alloc: Global, program: Program) -> Result<Answer, Memory>
+    ensures { IfOk result (λ answer. (bytes script input : List ℕ) → grammar bytes ≡ Ok program
         → Answers bytes (run script input) (answer_text answer) (answer_status answer)) }
 {
-    if !is_served(program) {
+    if !built(&program) {
         return refusal(alloc, UNSERVED);
     }
-    let run = run_program(alloc, program)?;
-    Ok(Answer::Report(report_of(alloc, program, &run)?))
+    let program = Arc::new(alloc, program)?;
+    let port = run_program(alloc, &program)?;
+    Ok(Answer::Report(report_of(alloc, &program, port)?))
 }
 
 /// The line that tells why a script was refused.

@@ -7,7 +7,7 @@ ghost use Rattle.pic_run.specs.declared.limits.TheConstants.{MOST_BYTES};
 ghost use Rattle.pic_run.specs.Request.{Command, check, request, run, script_of, show};
 ghost use Rattle.pic_run.specs.Refusal.{IsServed};
 ghost use Rattle.pic_run.specs.Due.{Serves, asked_of};
-ghost use Rattle.pic_run.specs.Headline.{CheckedBy, Headline, ReadFaultBy, RefusedBy, ShownBy, TookNoMore, TooLargeBy};
+ghost use Rattle.pic_run.specs.Headline.{AsksRun, CheckedBy, EndsWell, Headline, ReadFaultBy, RefusedBy, ShownBy, TookNoMore, TooLargeBy};
 ghost use Rattle.pic_run.specs.Answer.{ended_status};
 
 use crate::answer::{Answer, answer_of};
@@ -27,9 +27,12 @@ pub fn run_one_call<F: Files, K: Sink>(
     out: &mut K,
 ) -> Status
     // A run: one legal history of the machine, and its report.
-    ensures headline { result ≡ Status.Done → (script input : List ℕ)
+    ensures headline { (result ≡ Status.Done) ⊎ (result ≡ Status.Raised) → (script input : List ℕ)
         → request (map string_bytes words.now) ≡ Some (run script input)
         → Headline (F.held files.old script) (K.taken out.old) (K.taken out.new) result }
+
+    // No other command ends so.
+    ensures raised { result ≡ Status.Raised → AsksRun (map string_bytes words.now) }
 
     // A script that was read, and what was asked of it.
     ensures checked { result ≡ Status.Done → (script : List ℕ)
@@ -72,7 +75,7 @@ pub fn run_one_call<F: Files, K: Sink>(
         → (Rose (F.fault_count files.old) (F.fault_count files.new) → ⊥)
         → length bytes ≤ MOST_BYTES
         → (Rose (K.fault_count out.old) (K.fault_count out.new) → ⊥)
-        → IsServed command bytes → (result ≡ Status.Done) ⊎ (result ≡ Status.OutOfMemory) }
+        → IsServed command bytes → EndsWell command result ⊎ (result ≡ Status.OutOfMemory) }
 
     // Bytes within the size that are no script are refused, and longer ones are too large.
     ensures outside { (command : Command) (bytes : List ℕ)
@@ -112,7 +115,7 @@ fn call_once<F: Files, K: Sink>(
     match answer {
         Answer::Text(text, status) => ended(put_all(out, text.as_bytes()), status),
         Answer::Made(text, status) => ended(put_all(out, text.as_str().as_bytes()), status),
-        Answer::Report(lines) => ended(put_lines(out, lines.as_slice()), Status::Done),
+        Answer::Report(report) => { ended(put_lines(out, report.lines.as_slice()), report.status) }
     }
 }
 

@@ -1,27 +1,24 @@
 //! The top call, `run_one_call`: from the words of a command line to the bytes of a report.
 //!
-//! It asks `script_tree` for the program that the script is, or its first fault. A run plays main's
-//! statements on the machine and keeps the history (`run`, `runner`, `fiber`), and writes the report
-//! (`report`, `output`); to show a script it asks `script_tree` again. It stands on `pic_machine` for
-//! worlds and legal histories, on `script_tree` for the grammar and the canonical text, and on
-//! `pic_io` for files and the sink. `specs/` has the definitions that its contract cites: which
-//! programs a run serves (`Served`), what statements mean (`Meaning`), which histories are runs
-//! (`Run`), the report's text (`Report`), the words (`Request`), what is refused (`Refusal`), and the
-//! promise itself (`Headline`, `Due`). The program uses that one contract.
+//! It asks `script_tree` for the program that the script is, or its first fault. A run opens a port,
+//! has `mux_one` run all fibers to their ends on it (`run`), and writes the report (`report`,
+//! `output`); to show a script it asks `script_tree` again. It stands on `pic_machine` for worlds and
+//! legal histories, on `port_plain` for the port, on `fiber_body` for what statements mean, on
+//! `fiber_poll` for which forms are run so far, on `script_tree` for the grammar and the canonical
+//! text, and on `pic_io` for files and the sink. `specs/` has the definitions that its contract cites:
+//! which histories are runs (`Run`), the report's text (`Report`), the words (`Request`), what is
+//! refused (`Refusal`), the statuses (`Status`), and the promise itself (`Headline`, `Due`). The
+//! program uses that one contract.
 #![tactic(auto)]
 
 mod answer;
 mod call;
-mod fiber;
 mod limits;
 mod output;
 mod report;
 mod request;
 mod run;
-mod runner;
-mod served;
 mod status;
-mod texts;
 
 pub use call::run_one_call;
 pub use limits::{LIMITS, MOST_BYTES};

@@ -1,128 +1,88 @@
-//! The report of a run, line by line.
-ghost use Rattle.std.specs.Prelude.{◌≡◌, ◌++◌, ◌∷◌, [], codes, decimal, map, string_bytes, slice_get, IfOk, OnOk};
-ghost use Rattle.pic_run.specs.Past.{world_of};
-ghost use Rattle.pic_run.specs.Report.{comp_name, comp_state_text, comps_lines, declared_names, fiber_line, fibers_lines, report_lines, run_line, said_line, says_lines};
-ghost use Rattle.pic_run.specs.Lines.{said_by};
+//! The report of a run that is over.
+ghost use Rattle.std.specs.Prelude.{◌≡◌, ◌≢◌, ◌<◌, ◌++◌, ◌∷◌, [], All, List, codes, length, slice_get, string_bytes, IfOk};
+ghost use Rattle.pic_machine.specs.declared.entry.Happened.{Happened};
+ghost use Rattle.pic_run.specs.Over.{AreBodies, IsOver, IsReportOf};
+ghost use Rattle.pic_run.specs.Report.{fibers_lines, run_line};
+ghost use Rattle.pic_run.specs.Status.{status_of};
 
 mod completers;
+mod comps;
+mod fibers;
 mod lines;
 
-use crate::runner::Runner;
-use completers::completers;
+use crate::status::Status;
+use comps::add_comps;
+use fiber_body::Body;
+use fibers::add_fibers;
 pub(crate) use lines::Lines;
-use pic_base::{FiberNo, Memory, Outcome, Value};
-use pic_machine::{Call, CompState, FiberState, Happened};
+use pic_base::{Memory, Outcome};
+use pic_machine::FiberState;
+use port_plain::PlainPort;
 use script_tree::Program;
 use std::alloc::Global;
 
-/// The lines of the report of a run of the program.
-pub(crate) fn report_of(alloc: Global, program: &Program, run: &Runner) -> Result<Lines, Memory>
-    ensures { IfOk result (λ lines.
-        lines ≡ report_lines (declared_names program.now) run.now.history (world_of run.now)) }
+/// The report of a run, and the status that tells how main ended.
+#[derive(Drop)]
+pub(crate) struct Report {
+    pub(crate) lines: Lines,
+    pub(crate) status: Status,
+}
+
+/// The report of a run of the program that is over.
+pub(crate) fn report_of(
+    alloc: Global,
+    program: &Program,
+    port: PlainPort<Body>,
+) -> Result<Report, Memory>
+    requires { IsOver program.now port }
+    ensures { IfOk result (IsReportOf program.now port.front) }
+{
+    // The bodies are had by closing the port, so what else it tells is told before.
+    let mut comps = Lines::new(alloc);
+    add_comps(
+        alloc,
+        &mut comps,
+        program,
+        port.history(),
+        port.world().comps(),
+    )?;
+    let mut fibers = Vec::new(alloc);
+    fibers.extend_from_slice(port.world().fibers())?;
+    let Ok(closed) = port.close() else {
+        return Err(Memory);
+    };
+    let status = status_of(fibers.as_slice());
+    let lines = lines_of(
+        alloc,
+        program,
+        fibers.as_slice(),
+        closed.bodies.as_slice(),
+        comps,
+    )?;
+    Ok(Report { lines, status })
+}
+
+/// The lines of the report, of which those of the computations were made before.
+fn lines_of(
+    alloc: Global,
+    program: &Program,
+    fibers: &[FiberState],
+    bodies: &[Body],
+    comps: Lines,
+) -> Result<Lines, Memory>
+    requires { length bodies.now ≡ length fibers.now }
+    ensures { IfOk result (λ lines. (history : List Happened)
+        → AreBodies program.now history bodies.now
+        → lines ≡ (codes "picos report 1\n" ∷ []) ++ (fibers_lines program.now history 1 fibers.now
+        ++ (comps ++ (codes "clock 0\n" ∷ (run_line (slice_get fibers.now 0) ∷ []))))) }
 {
     let mut lines = Lines::new(alloc);
     lines.push_text(alloc, "picos report 1\n")?;
-    add_fibers(alloc, &mut lines, run)?;
-    add_comps(alloc, &mut lines, program, run)?;
+    add_fibers(alloc, &mut lines, program, fibers, bodies)?;
+    lines.append(comps)?;
     lines.push_text(alloc, "clock 0\n")?;
-    lines.push(run_line(alloc, run.fibers())?)?;
+    lines.push(run_line(alloc, fibers)?)?;
     Ok(lines)
-}
-
-/// Each fiber in order, with what it said.
-fn add_fibers(alloc: Global, lines: &mut Lines, run: &Runner) -> Result<(), Memory>
-    ensures { OnOk result (lines.new ≡ lines.old
-        ++ fibers_lines run.now.history 1 (world_of run.now).fibers) }
-{
-    for (index, state) in run.fibers().iter().enumerate() {
-        let number = index + 1;
-        lines.push(fiber_line(alloc, number, *state)?)?;
-        add_says(alloc, lines, run.history(), number)?;
-    }
-    Ok(())
-}
-
-/// What the fiber said, in order.
-fn add_says(
-    alloc: Global,
-    lines: &mut Lines,
-    history: &[Happened],
-    fiber: usize,
-) -> Result<(), Memory>
-    ensures { OnOk result (lines.new ≡ lines.old ++ says_lines history.now fiber) }
-{
-    for happened in history {
-        if let Some(value) = said_by(happened, fiber) {
-            lines.push(said_line(alloc, value)?)?;
-        }
-    }
-    Ok(())
-}
-
-/// Each computation in order.
-fn add_comps(
-    alloc: Global,
-    lines: &mut Lines,
-    program: &Program,
-    run: &Runner,
-) -> Result<(), Memory>
-    ensures { OnOk result (lines.new ≡ lines.old
-        ++ comps_lines (declared_names program.now) run.now.history 0 (world_of run.now).comps) }
-{
-    let comps = run.comps();
-    let found = completers(alloc, run.history(), comps.len())?;
-    for (number, state) in comps.iter().enumerate() {
-        let name = comp_name(program, number);
-        lines.push(comp_line(alloc, number, name, *state, found[number])?)?;
-    }
-    Ok(())
-}
-
-fn fiber_line(alloc: Global, number: usize, state: FiberState) -> Result<String, Memory>
-    ensures { IfOk result (λ line. string_bytes line ≡ fiber_line number state) }
-{
-    match state {
-        FiberState::Live => Ok(format!(in alloc; "fiber {number} main live\n")?),
-        FiberState::Ended(outcome) => Ok(format!(in alloc; "fiber {number} main {outcome}\n")?),
-    }
-}
-
-fn said_line(alloc: Global, value: Value) -> Result<String, Memory>
-    ensures { IfOk result (λ line. string_bytes line ≡ said_line value) }
-{
-    Ok(format!(in alloc; "  say {value}\n")?)
-}
-
-fn comp_line(
-    alloc: Global,
-    number: usize,
-    name: &str,
-    state: CompState,
-    by: Option<FiberNo>,
-) -> Result<String, Memory>
-    ensures { IfOk result (λ line. string_bytes line ≡ codes "comp " ++ (decimal number
-        ++ (codes " " ++ (name.now ++ (codes " " ++ comp_state_text by state))))) }
-{
-    match state {
-        CompState::Running => Ok(format!(in alloc; "comp {number} {name} running\n")?),
-        CompState::Done(outcome) => {
-            let by = by.unwrap_or(0);
-            Ok(format!(in alloc; "comp {number} {name} {outcome} by {by}\n")?)
-        }
-    }
-}
-
-/// The root, the name that the script declares, or `-`.
-fn comp_name(program: &Program, number: usize) -> &str
-    ensures { result.now ≡ comp_name (declared_names program.now) number }
-{
-    if number == 0 {
-        return "root";
-    }
-    match program.decls.get(number - 1) {
-        Some(decl) => decl.name.as_str(),
-        None => "-",
-    }
 }
 
 /// How main ended.
@@ -137,15 +97,12 @@ fn run_line(alloc: Global, fibers: &[FiberState]) -> Result<String, Memory>
     }
 }
 
-/// The value that the fiber says by this entry.
-fn said_by(happened: &Happened, fiber: usize) -> Option<Value>
-    ensures { result ≡ said_by fiber happened.now }
+/// The status that tells how main ended.
+fn status_of(fibers: &[FiberState]) -> Status
+    ensures { result ≡ status_of (slice_get fibers.now 0) }
 {
-    if happened.entry.fiber as usize != fiber {
-        return None;
-    }
-    match happened.entry.call {
-        Call::Say(value) => Some(value),
-        _ => None,
+    match fibers.first().copied() {
+        Some(FiberState::Ended(Outcome::Cancelled(_))) => Status::Raised,
+        _ => Status::Done,
     }
 }

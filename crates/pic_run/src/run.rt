@@ -1,49 +1,34 @@
 //! Runs a program from its start to its end.
-ghost use Rattle.std.specs.Prelude.{◌≡◌, IsTrue, IfOk};
-ghost use Rattle.script_tree.specs.WellFormed.{IsWellFormed};
-ghost use Rattle.pic_run.specs.Served.{is_served};
-ghost use Rattle.pic_run.specs.Run.{IsRunOf, origin, start_of};
-ghost use Rattle.pic_run.specs.Status.{MainReturned};
-ghost use Rattle.pic_machine.specs.History.{world};
+ghost use Rattle.std.specs.Prelude.{IsTrue, IfOk};
+ghost use Rattle.std.specs.Arc.{arc_value};
+ghost use Rattle.fiber_poll.specs.Built.{is_built};
+ghost use Rattle.pic_run.specs.Over.{IsOpened, IsOver};
 
-use crate::fiber::{Fiber, MAIN};
 use crate::limits::LIMITS;
-use crate::runner::Runner;
-use crate::texts::{main_stmts, main_text};
-use pic_base::{Memory, Outcome};
-use pic_machine::{Call, Start};
-use script_tree::{Operand, Program};
+use fiber_body::{Body, start_of};
+use fiber_poll::ScriptPoller;
+use mux_one::run_fifo;
+use pic_base::Memory;
+use port_plain::PlainPort;
+use script_tree::Program;
 use std::alloc::Global;
+use std::sync::Arc;
 
-/// Runs main in one turn: every statement in order, and its end.
-pub(crate) fn run_program(alloc: Global, program: &Program) -> Result<Runner, Memory>
-    requires formed { IsWellFormed program.now }
-    requires served { IsTrue (is_served program.now) }
-    ensures start { IfOk result (λ past. past.start ≡ start_of program.now) }
-    ensures run { IfOk result (λ past. IsRunOf program.now past.history) }
-    ensures returned { IfOk result (λ past. MainReturned (world (origin program.now) past.history)) }
+/// Runs main, and each fiber that is made, to its end.
+pub(crate) fn run_program(alloc: Global, program: &Arc<Program>) -> Result<PlainPort<Body>, Memory>
+    requires { IsTrue (is_built (arc_value program.now)) }
+    ensures { IfOk result (IsOver (arc_value program.now)) }
 {
-    let start = start_of(program);
-    let mut runner = Runner::open(alloc, &start)?;
-    let mut fiber = Fiber::new();
-    runner.make(MAIN, Call::Turn)?;
-    for stmt in main_stmts(program) {
-        fiber.run(&mut runner, stmt)?;
-    }
-    let value = fiber.value(Operand::Reg(0));
-    runner.make(MAIN, Call::End(Outcome::Returned(value)))?;
-    Ok(runner)
+    let port = open(alloc, program)?;
+    let poller = ScriptPoller::new(alloc, program.clone()?);
+    run_fifo(alloc, &poller, port)
 }
 
-/// The root and the declared computations, and the main text.
-fn start_of(program: &Program) -> Start
-    requires formed { IsWellFormed program.now }
-    requires served { IsTrue (is_served program.now) }
-    ensures { result ≡ start_of program.now }
+/// The machine before the first entry: main is to run the main text.
+fn open(alloc: Global, program: &Arc<Program>) -> Result<PlainPort<Body>, Memory>
+    ensures { IfOk result (IsOpened (arc_value program.now)) }
 {
-    Start {
-        comps: program.decls.len() as u32 + 1,
-        text: main_text(program),
-        limits: LIMITS,
-    }
+    let start = start_of(program, LIMITS);
+    let main = Body::new(alloc, program, start.text, 0, 0)?;
+    PlainPort::open(alloc, &start, main, Body::clock(alloc))
 }

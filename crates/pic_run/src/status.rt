@@ -4,8 +4,11 @@ ghost use Rattle.pic_run.specs.Status.{status_number};
 /// How a call of the program ended.
 #[derive(Clone, Copy, Debug, PartialEq, Eq)]
 pub enum Status {
-    /// A run: its world is final, and main returned.
+    /// What was asked for was done; of a run: its world is final, so no fiber is suspended, and main
+    /// returned.
     Done,
+    /// A run: its world is final, so no fiber is suspended, and main was cancelled.
+    Raised,
     /// The words are no request.
     Usage,
     /// The script is outside the grammar.
@@ -27,6 +30,7 @@ impl Status {
     {
         match self {
             Status::Done => 0,
+            Status::Raised => 1,
             Status::Usage => 3,
             Status::Refused => 4,
             Status::ReadFault => 5,

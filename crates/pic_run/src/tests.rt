@@ -2,14 +2,24 @@
 ghost use Rattle.std.specs.Prelude.{◌<◌};
 
 use super::*;
+use crate::run::run_program;
+use fiber_poll::built;
+use pic_base::{FiberNo, Outcome};
 use pic_io::{Files, MemFiles, MemSink};
+use pic_machine::Call;
+use script_tree::parse;
 use std::alloc::Global;
+use std::sync::Arc;
 use std::test::Fail;
 
 const FIRST: &[u8] = b"picos 1\nmain\nend\n";
 
 const FIRST_REPORT: &[u8] =
     b"picos report 1\nfiber 1 main returned 0\ncomp 0 root running\nclock 0\nrun done\n";
+
+/// Main makes fibers of two texts, and all of them take turns.
+const TURNS: &[u8] =
+    b"picos 1\nfiber a\nsay 1\nyield\nsay 2\nend\nfiber b\nsay 3\nend\nmain\nspawn a 0\nyield\nspawn b 0\nsay 4\nyield\nend\n";
 
 /// The words of a command line.
 fn words(alloc: Global, texts: &[&str]) -> Result<Vec<String>, Fail> {
@@ -30,7 +40,7 @@ fn file_a(alloc: Global, content: &[u8]) -> Result<MemFiles, Fail> {
 #[test]
 fn reports(rt: HostRuntime) -> Result<(), Fail> {
     let alloc = rt.alloc();
-    let table: [(&[u8], Status, &[u8]); 7] = [
+    let table: [(&[u8], Status, &[u8]); 9] = [
         (FIRST, Status::Done, FIRST_REPORT),
         (
             b"picos 1\ncomp a\nmain\nreturn r1 a 5\nreturn r2 a 6\ncancel r3 a 7\nsay r1\nsay r2\nsay r3\npeek r4 r5 a\nsay r5\nend\n",
@@ -41,6 +51,18 @@ fn reports(rt: HostRuntime) -> Result<(), Fail> {
             b"picos 1\nmain\nset r0 7\ncancel r1 root 9\npeek r2 r3 root\nsay r2\nsay r3\nend\n",
             Status::Done,
             b"picos report 1\nfiber 1 main returned 7\n  say 2\n  say 9\ncomp 0 root cancelled 9 by 1\nclock 0\nrun done\n",
+        ),
+        // Each fiber has the name of its text and its own says.
+        (
+            TURNS,
+            Status::Done,
+            b"picos report 1\nfiber 1 main returned 0\n  say 4\nfiber 2 a returned 0\n  say 1\n  say 2\nfiber 3 b returned 0\n  say 3\ncomp 0 root running\nclock 0\nrun done\n",
+        ),
+        // A text that no fiber runs.
+        (
+            b"picos 1\nfiber f\nsay 1\nend\nmain\nend\n",
+            Status::Done,
+            FIRST_REPORT,
         ),
         // Blanks, comments and a last line without an end don't matter.
         (
@@ -56,7 +78,7 @@ fn reports(rt: HostRuntime) -> Result<(), Fail> {
         ),
         // Scripts that no run serves yet.
         (
-            b"picos 1\nfiber f\nend\nmain\nend\n",
+            b"picos 1\nfiber f\ncheck\nend\nmain\nend\n",
             Status::Refused,
             b"refused line 0 cause 0\n",
         ),
@@ -228,5 +250,97 @@ fn faults_of_the_sink(rt: HostRuntime) -> Result<(), Fail> {
     let (ended, taken) = put_to(alloc, FIRST, 1, 6)?;
     assert_eq!(rt; ended, Status::WriteFault);
     assert_eq!(rt; taken.as_slice(), b"picos".as_slice());
+    Ok(())
+}
+
+/// A script whose main makes one fiber more than there may be, and the report of its run.
+fn too_many_fibers(alloc: Global) -> Result<(String, String), Fail> {
+    let mut script = String::from_str(alloc, "picos 1\nfiber n\nend\nmain\n")?;
+    for _ in 0..LIMITS.fibers {
+        script.push_str("spawn n 0\n")?;
+    }
+    script.push_str("end\n")?;
+    let mut report = String::from_str(alloc, "picos report 1\nfiber 1 main cancelled 3\n")?;
+    for number in 2..LIMITS.fibers + 1 {
+        let line = format!(in alloc; "fiber {number} n returned 0\n")?;
+        report.push_str(line.as_str())?;
+    }
+    report.push_str("comp 0 root running\nclock 0\nrun raised 3\n")?;
+    Ok((script, report))
+}
+
+#[test]
+fn main_is_cancelled(rt: HostRuntime) -> Result<(), Fail> {
+    let alloc = rt.alloc();
+    let (script, report) = too_many_fibers(alloc)?;
+    let (ended, taken) = put_to(alloc, script.as_str().as_bytes(), usize::MAX, 0)?;
+    assert_eq!(rt; ended, Status::Raised);
+    assert_eq!(rt; taken.as_slice(), report.as_str().as_bytes());
+    Ok(())
+}
+
+/// The fibers and calls of a run of this script, in the order of happening; none where it isn't run.
+fn calls_of(alloc: Global, script: &[u8]) -> Result<Vec<(FiberNo, Call)>, Fail> {
+    let mut calls = Vec::new(alloc);
+    if script.len() > MOST_BYTES {
+        return Ok(calls);
+    }
+    let Ok(program) = parse(alloc, script) else {
+        return Ok(calls);
+    };
+    if !built(&program) {
+        return Ok(calls);
+    }
+    let program = Arc::new(alloc, program)?;
+    let Ok(port) = run_program(alloc, &program) else {
+        return Ok(calls);
+    };
+    for happened in port.history() {
+        calls.push((happened.entry.fiber, happened.entry.call))?;
+    }
+    Ok(calls)
+}
+
+#[test]
+fn the_longest_ready_goes_first(rt: HostRuntime) -> Result<(), Fail> {
+    let alloc = rt.alloc();
+    let calls = calls_of(alloc, TURNS)?;
+    let ends = Call::End(Outcome::Returned(0));
+    let expected: [(FiberNo, Call); 18] = [
+        (1, Call::Turn),
+        (1, Call::Fork { text: 0, value: 0 }),
+        (1, Call::Yield),
+        (2, Call::Turn),
+        (2, Call::Say(1)),
+        (2, Call::Yield),
+        (1, Call::Turn),
+        (1, Call::Fork { text: 1, value: 0 }),
+        (1, Call::Say(4)),
+        (1, Call::Yield),
+        (2, Call::Turn),
+        (2, Call::Say(2)),
+        (2, ends),
+        (3, Call::Turn),
+        (3, Call::Say(3)),
+        (3, ends),
+        (1, Call::Turn),
+        (1, ends),
+    ];
+    assert_eq!(rt; calls.as_slice(), expected.as_slice());
+    Ok(())
+}
+
+#[test]
+fn three_fibers_take_turns(rt: HostRuntime) -> Result<(), Fail> {
+    let alloc = rt.alloc();
+    let script: &[u8] =
+        b"picos 1\nfiber y\nsay r0\nyield\nsay r0\nend\nmain\nspawn y 1\nspawn y 2\nspawn y 3\nend\n";
+    let mut turns = Vec::new(alloc);
+    for (fiber, call) in calls_of(alloc, script)? {
+        if call == Call::Turn {
+            turns.push(fiber)?;
+        }
+    }
+    assert_eq!(rt; turns.as_slice(), [1, 2, 3, 4, 2, 3, 4].as_slice());
     Ok(())
 }

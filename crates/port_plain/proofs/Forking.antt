@@ -142,6 +142,7 @@ module _ {B S : Type 0} (seen : B → Carry S) (fits : B → List Happened → T
 
         child_stored : IsStored seen fits (with_entry now h) v (bodies ++ Some numbered ∷ []) ticking
         child_stored = record {
+          begun = before.begun;
           legal = legal;
           now = step ∙ (ap with_fiber (sym here) ∙ sym (world-push (origin_of now.start) now.front h));
           main = rw (length-append bodies (Some numbered ∷ [])) (omega arith);

@@ -43,6 +43,7 @@ module _ {B S : Type 0} (seen : B → Carry S) (fits : B → List Happened → T
       let legal = IsLegal-push (origin_of port.start) port.front h stored.legal follows in
       let away = stored.away h.entry.fiber out in
       record {
+        begun = stored.begun;
         legal = legal;
         now = step ∙ (ap (λ (u : State). after u h.entry.fiber h.entry.call) stored.now ∙ sym (world-push (origin_of port.start) port.front h));
         main = stored.main;
@@ -89,6 +90,7 @@ module _ {B S : Type 0} (seen : B → Carry S) (fits : B → List Happened → T
 
       pub kept_stored : IsStored seen fits (record port { out = None }) w (slice_set bodies (f - 1) (Some body)) ticking
       kept_stored = record {
+        begun = stored.begun;
         legal = stored.legal;
         now = stored.now;
         main = rw (length-set bodies (f - 1) (Some body)) stored.main;
@@ -118,6 +120,7 @@ module _ {B S : Type 0} (seen : B → Carry S) (fits : B → List Happened → T
 
       pub taken_stored : IsStored seen fits (record port { out = Some f }) w (slice_set bodies (f - 1) None) ticking
       taken_stored = record {
+        begun = stored.begun;
         legal = stored.legal;
         now = stored.now;
         main = rw (length-set bodies (f - 1) None) stored.main;

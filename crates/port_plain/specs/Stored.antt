@@ -1,7 +1,7 @@
 -- What the port stores beside what it shows. Only its invariant cites this.
 use Rattle.std.specs.Prelude.{◌≡◌, ℕ, ◌+◌, ◌-◌, ◌<◌, Option, Some, None, List, length, slice_get}
 use Rattle.pic_machine.specs.declared.entry.Happened.{Happened}
-use Rattle.pic_machine.specs.State.{State}
+use Rattle.pic_machine.specs.State.{CanStart, State}
 use Rattle.pic_machine.specs.History.{IsLegal, origin_of, world}
 use Rattle.pic_machine.specs.Sight.{Carry}
 use Rattle.pic_machine.specs.Home.{IsHome}
@@ -12,9 +12,10 @@ pub record IsAway {B : Type 0} (bodies : List (Option B)) (f : ℕ) : Type 0 whe
   pub made : 0 < f
   pub place : slice_get bodies (f - 1) ≡ Some None
 
--- the history is legal, and the world is the one after it; each fiber has a place for its body, in order
+-- the start is one that a world can be made of; the history is legal, and the world is the one after it; each fiber has a place for its body, in order
 -- of their numbers, and the body is there unless it is out; what is there is as the history says
 pub record IsStored {B S : Type 0} (seen : B → Carry S) (fits : B → List Happened → Type 0) (port : Shown B) (w : State) (bodies : List (Option B)) (ticking : B) : Type 0 where
+  pub begun : CanStart port.start
   pub legal : IsLegal (origin_of port.start) port.front
   pub now : w ≡ world (origin_of port.start) port.front
   pub main : 0 < length bodies

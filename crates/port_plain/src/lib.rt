@@ -3,7 +3,8 @@
 //!
 //! It stands on `pic_base` and `pic_machine`. The layers above use `PlainPort`: the contract of `Port`,
 //! each clause of which it keeps, at the sight of `specs/Shown.antt` (it is alone, and nobody is ever in
-//! its way, so no call answers `Again`); `open`; `history`, which is the front itself; and `close`, which
+//! its way, so no call answers `Again`); `open`; `history`, which is the front itself, and `world`, to which
+//! it leads; and `close`, which
 //! hands out each body as the history says that it is (`IsLeft` of `specs/Closing.antt`).
 #![tactic(auto)]
 

@@ -49,6 +49,14 @@ impl<B: Carried> Model for PlainPort<B> {
 }
 
 impl<B: Carried> PlainPort<B> {
+    /// The world that the history leads to.
+    pub fn world(&self) -> &World
+        ensures now { result.now ≡ world (origin_of self.now.start) self.now.front }
+        ensures start { CanStart self.now.start }
+    {
+        &self.world
+    }
+
     /// What happened so far, the births of fibers beside the forks that made them.
     pub fn history(&self) -> &[Happened]
         ensures { result.now ≡ self.now.front }

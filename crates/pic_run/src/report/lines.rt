@@ -43,6 +43,15 @@ impl Lines {
         self.push(String::from_str(alloc, text)?)
     }
 
+    /// Adds all lines of the other ones.
+    pub(crate) fn append(&mut self, other: Lines) -> Result<(), Memory>
+        ensures ok { OnOk result (self.new ≡ self.old ++ other) }
+    {
+        let mut other = other;
+        self.lines.append(&mut other.lines)?;
+        Ok(())
+    }
+
     pub(crate) fn as_slice(&self) -> &[String]
         ensures { map string_bytes result.now ≡ self.now }
     {

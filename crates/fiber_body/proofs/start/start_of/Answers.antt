@@ -1,11 +1,11 @@
-use Rattle.std.proofs.Common.{◌<◌, ◌^◌, ◌+◌, length, ap, subst, arith}
+use Rattle.std.proofs.Common.{◌≤◌, length, ap, subst, arith}
 use Rattle.script_tree.specs.Tree.{Tree}
 use Rattle.script_tree.specs.WellFormed.{IsWellFormed}
 use Rattle.fiber_body.proofs.Declared.{few_declared}
 use Rattle.fiber_body.proofs.start.start_of.Goals as goal
 use Rattle.fiber_body.proofs.start.start_of.Goals.{After-len}
 
-few : (c : After-len) → c.len.result + 1 < 2 ^ 32
+few : (c : After-len) → c.len.result ≤ 576
 few c =
     let formed = subst IsWellFormed c.program.view_is c.program.invariant.formed in
     let most = few_declared c.args.program.now formed in
@@ -17,3 +17,10 @@ overflow_cast-result c = omega (arith, few c)
 
 pub overflow_add-result : goal.overflow_add-result
 overflow_add-result c = omega (arith, few c)
+
+pub returns-clause-few : goal.returns-clause-few
+returns-clause-few c =
+    let formed = subst IsWellFormed c.program.view_is c.program.invariant.formed in
+    let most = few_declared c.args.program.now formed in
+    let count = ap (λ (t : Tree). length t.decls) c.program.view_is in
+    omega (arith, most, count, c.len.ensures)

@@ -9,11 +9,11 @@ use Rattle.pic_run.proofs.answer.answer_of_program.Goals as goal
 
 pub returns-in-Check : goal.returns-in-Check
 returns-in-Check c = λ bytes reads.
-    subst (λ (m : Mode). Answers bytes (command_of_mode m) (codes "ok\n") Done) (sym c.in-Check.is) (checked c.args.program.now reads)
+    subst (λ (m : Mode). Answers bytes (command_of_mode m) (codes "ok\n") Done) (sym c.in-Check.is) (checked c.args.program reads)
 
 pub returns-in_ok-show-in-Show : goal.returns-in_ok-show-in-Show
 returns-in_ok-show-in-Show c = λ bytes reads.
     let is = c.in_ok-show-in-Show.ensures.text in
-    let again = subst (λ (text : List ℕ). grammar text ≡ Ok c.args.program.now) is c.in_ok-show-in-Show.ensures.again in
+    let again = subst (λ (text : List ℕ). grammar text ≡ Ok c.args.program) is c.in_ok-show-in-Show.ensures.again in
     subst (λ (m : Mode). Answers bytes (command_of_mode m) (string_bytes c.in_ok-show-in-Show.field-0) Done) (sym c.in-Show.is)
-    (subst (λ (text : List ℕ). Answers bytes (show (string_bytes c.in-Show.script)) text Done) (sym is) (shown c.args.program.now reads again))
+    (subst (λ (text : List ℕ). Answers bytes (show (string_bytes c.in-Show.script)) text Done) (sym is) (shown c.args.program reads again))

@@ -2,7 +2,6 @@ use Rattle.std.proofs.Common.{List, ℕ, map, subst, ◌∙◌}
 use Rattle.std.specs.List.{flat_map}
 use Rattle.std.specs.String.{string_bytes}
 use Rattle.std.proofs.KnownBytes.{Appends-nil}
-use Rattle.pic_run.specs.declared.status.Status.TheVariants.{Done}
 use Rattle.pic_run.specs.Output.{Puts}
 use Rattle.pic_run.specs.Due.{asked_of, gave_up}
 use Rattle.pic_run.proofs.Calls.{serves_put}
@@ -46,4 +45,4 @@ returns-in-Report-clause-serves g c =
     let puts = subst (λ (ls : List (List ℕ)). Puts before now faults faults_now (flat_map (λ line. line) ls) c.put_lines.result) c.as_slice.ensures c.put_lines.ensures in
     rw c.ended-in-Report.ensures
     (serves_put (asked_of (map string_bytes c.args.words.now) (g.F.Files.held c.args.files.now) (g.F.Files.fault_count c.args.files.now) (g.F.Files.fault_count c.answer_of.new.files) (g.F.Files.last_failed c.answer_of.new.files))
-    before now faults faults_now (flat_map (λ line. line) c.in-Report.lines) Done c.put_lines.result due puts)
+    before now faults faults_now (flat_map (λ line. line) c.in-Report.report.lines) c.in-Report.report.status c.put_lines.result due puts)

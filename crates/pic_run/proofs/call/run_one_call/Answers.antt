@@ -1,7 +1,7 @@
 use Rattle.std.proofs.Common.{map}
 use Rattle.std.specs.String.{string_bytes}
 use Rattle.pic_run.specs.Due.{asked_of}
-use Rattle.pic_run.proofs.Calls.{told, told_headline, told_checked, told_shown, told_usage, told_refused, told_read_fault, told_too_large, told_write_fault, told_out_of_memory, told_no_request, told_accepted, told_outside, told_longer}
+use Rattle.pic_run.proofs.Calls.{told, told_headline, told_raised, told_checked, told_shown, told_usage, told_refused, told_read_fault, told_too_large, told_write_fault, told_out_of_memory, told_no_request, told_accepted, told_outside, told_longer}
 use Rattle.pic_run.proofs.call.run_one_call.Goals as goal
 
 pub returns : goal.returns
@@ -14,6 +14,7 @@ returns g c =
     let t = told asked before now faults faults_now c.call_once.ensures.serves in
     record {
       headline = told_headline asked before now faults faults_now t;
+      raised = told_raised asked before now faults faults_now t;
       checked = told_checked asked before now faults faults_now t;
       shown = told_shown asked before now faults faults_now t;
       usage = told_usage asked before now faults faults_now t;

@@ -1,0 +1,15 @@
+-- Where the history began, and what its bodies share, are all that matters of a port.
+use Rattle.std.proofs.Common.{◌≡◌, ◌+◌, ◌<◌, ◌≤◌, Option, length, sym, subst, ◌∙◌}
+use Rattle.pic_machine.specs.History.{Origin}
+use Rattle.pic_machine.specs.Sight.{Sight}
+use Rattle.script_tree.specs.Tree.{Tree}
+use Rattle.fiber_poll.specs.Polls.{IsPortOf}
+
+pub port_later : (script : Tree) (old new : Sight (Option Tree)) → IsPortOf script old → new.origin ≡ old.origin
+    → new.share ≡ old.share → IsPortOf script new
+port_later script old new port origin share = record {
+  share = share ∙ port.share;
+  built = port.built;
+  comps = subst (λ (o : Origin). length script.decls + 1 ≤ length o.world.comps) (sym origin) port.comps;
+  main = subst (λ (o : Origin). o.main.current < length o.world.comps) (sym origin) port.main;
+}

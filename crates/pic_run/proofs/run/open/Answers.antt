@@ -1,0 +1,12 @@
+use Rattle.std.proofs.Common.{refl}
+use Rattle.pic_run.proofs.Opening.{can_start, new_clock, new_main}
+use Rattle.pic_run.proofs.run.open.Goals as goal
+
+pub open-requires-clause-start : goal.open-requires-clause-start
+open-requires-clause-start c = can_start c.deref.result.now c.start_of-start.result c.start_of-start.ensures.is c.start_of-start.ensures.few
+
+pub open-requires-clause-main : goal.open-requires-clause-main
+open-requires-clause-main c = new_main _ _ _ c.in_ok-main.ensures c.start_of-start.result refl
+
+pub open-requires-clause-clock : goal.open-requires-clause-clock
+open-requires-clause-clock c = new_clock _ _ _ c.clock.ensures

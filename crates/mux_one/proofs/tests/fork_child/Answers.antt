@@ -10,7 +10,7 @@ use Rattle.pic_machine.specs.Log.{is_turn, log, visible}
 use Rattle.pic_machine.specs.Order.{GoesOn, turns_over}
 use Rattle.pic_machine.specs.Sight.{Carry, Sight, fiber_of, nothing}
 use Rattle.pic_machine.specs.Lending.{Lent, RefusesMaking, Spared}
-use Rattle.pic_machine.proofs.Fresh.{comps_stay}
+use Rattle.pic_machine.proofs.Comps.{comps_stay}
 use Rattle.pic_machine.proofs.Polls.{log_spared}
 use Rattle.pic_machine.proofs.Turnings.{turns_over-goes}
 use Rattle.pic_machine.proofs.Turns.{Adds-nil, grew_made, went_lent, went_spared}
@@ -58,7 +58,7 @@ fork-requires-clause-child g c =
       owes = refl;
       same_text = ap (λ (b : Birth). b.text) born;
       same_value = ap (λ (b : Birth). b.value) born;
-      stands = subst (λ (n : ℕ). c.new-child.result.birth.current < n) (sym (comps_stay p.origin.world p.front)) (subst (λ (n : ℕ). n < length p.origin.world.comps) (sym (ap (λ (b : Birth). b.current) born)) c.requires.comps);
+      stands = subst (λ (n : ℕ). c.new-child.result.birth.current < n) (sym (comps_stay p.origin p.front)) (subst (λ (n : ℕ). n < length p.origin.world.comps) (sym (ap (λ (b : Birth). b.current) born)) c.requires.comps);
       share = refl;
     }
 

@@ -1,1 +1,3 @@
 pub mod Declared
+pub mod Newborn
+pub mod Popped

@@ -1,13 +1,11 @@
 -- What ports rest on: a body's fitting doesn't depend on its room, nor, before the first entry, on its
 -- number, and of the clock's body nothing is asked but its entries.
-use Rattle.std.proofs.Common.{◌≡◌, ◌≢◌, ℕ, Option, Some, None, List, [], ◌∷◌, ◌++◌, refl, sym, ap, subst, ◌∙◌}
+use Rattle.std.proofs.Common.{◌≡◌, ℕ, Option, Some, None, List, [], refl, sym, subst, ◌∙◌}
 use Rattle.pic_base.specs.declared.outcome.Outcome.{Outcome}
-use Rattle.pic_machine.specs.declared.birth.Birth.{Birth}
 use Rattle.pic_machine.specs.declared.entry.Entry.{Entry}
 use Rattle.pic_machine.specs.declared.entry.Happened.{Happened}
 use Rattle.pic_machine.specs.Log.{visible}
 use Rattle.pic_machine.specs.Sight.{IsSame}
-use Rattle.script_tree.specs.Tree.{Tree}
 use Rattle.fiber_body.specs.declared.standing.Standing.{Standing}
 use Rattle.fiber_body.specs.declared.standing.Standing.TheVariants.{At, Leaving}
 use Rattle.fiber_body.specs.Follows.{FollowsText}
@@ -21,7 +19,7 @@ moved body number noted room = record body { number = number; noted = noted; roo
 -- two bodies with one birth, one share and one rest differ in no more
 same_but : (old new : Shown) → IsSameRest old new → new.birth ≡ old.birth → new.program ≡ old.program
     → new ≡ moved old new.number new.noted new.room
-same_but old new rest birth program = rw (rest.registers, rest.steps, rest.standing, birth, program) refl
+same_but old new rest birth program = rw (rest.registers, rest.cells, rest.steps, rest.standing, rest.frames, birth, program) refl
 
 -- what a body stands for doesn't depend on what else differs
 module _ (body : Shown) (number : Option ℕ) (noted : List Entry) (room : ℕ) (f : ℕ) where
@@ -30,7 +28,7 @@ module _ (body : Shown) (number : Option ℕ) (noted : List Entry) (room : ℕ) 
 
   leads_moved : (log : List Happened) (standing : Standing) → Leads body f log standing
       → Leads (moved body number noted room) f log standing
-  leads_moved log (At place) leads = leads
+  leads_moved log (At block place) leads = leads
   leads_moved log (Leaving o) left = left_moved log o left
 
   stands_moved : (log : List Happened) → Stands body f log → Stands (moved body number noted room) f log

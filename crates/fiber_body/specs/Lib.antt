@@ -3,6 +3,8 @@ pub mod Numbers
 pub mod Meaning
 pub mod Follows
 pub mod Shown
+pub mod Around
 pub mod Fits
+pub mod New
 pub mod Starts
 pub mod Laws

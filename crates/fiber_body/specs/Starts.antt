@@ -1,5 +1,5 @@
 -- What stands before the first entry of a script's runs.
-use Rattle.std.specs.Prelude.{ℕ, ◌+◌, length}
+use Rattle.std.specs.Prelude.{◌+◌, length}
 use Rattle.pic_base.specs.declared.limits.Limits.{Limits}
 use Rattle.pic_machine.specs.declared.world.Start.{Start}
 use Rattle.script_tree.specs.Tree.{Tree}

@@ -1,9 +1,12 @@
-ghost use Rattle.std.specs.Prelude.{◌≡◌, ◌<◌, ◌-◌, Some, None, IfOk, slice_index, slice_set, vec_len, vec_capacity};
+ghost use Rattle.std.specs.Prelude.{◌≡◌, ◌<◌, ◌-◌, ◌∷◌, Some, None, IfOk, IfSome, OnOk, OnErr, length, slice_get, slice_index, slice_set, vec_len, vec_capacity};
 ghost use Rattle.std.specs.Option.{option_map};
 ghost use Rattle.std.specs.Arc.{arc_value};
-ghost use Rattle.fiber_body.specs.Shown.{IsNew};
+ghost use Rattle.fiber_body.specs.New.{IsNew};
+ghost use Rattle.fiber_body.specs.Shown.{IsFrame, IsPopped};
+ghost use Rattle.fiber_body.specs.Texts.{block_in};
 
-use crate::standing::Standing;
+use crate::standing::{Frame, Standing};
+use crate::texts::block_of;
 use pic_base::{CompNo, FiberNo, Memory, STEPS, Value};
 use pic_machine::{Birth, Entry};
 use script_tree::Program;
@@ -19,13 +22,15 @@ pub struct Body {
     pub(crate) birth: Birth,
     pub(crate) number: Option<FiberNo>,
     registers: [Value; 16],
+    cells: [Value; 16],
     steps: u32,
     standing: Standing,
+    frames: Vec<Frame>,
     pub(crate) noted: Vec<Entry>,
 }
 
 impl Model for Body {
-    ghost use Rattle.std.specs.Prelude.{◌-◌, vec_len, vec_capacity};
+    ghost use Rattle.std.specs.Prelude.{◌-◌, reverse, vec_len, vec_capacity};
     ghost use Rattle.fiber_body.specs.Shown.{Shown};
     ghost use Rattle.std.specs.Option.{option_map};
     ghost use Rattle.std.specs.Arc.{arc_value};
@@ -37,11 +42,18 @@ impl Model for Body {
       birth = body.birth;
       number = body.number;
       registers = body.registers;
+      cells = body.cells;
       steps = body.steps;
       standing = body.standing;
+      frames = reverse body.frames.items;
       noted = body.noted.items;
       room = vec_capacity body.noted - vec_len body.noted;
     } };
+
+    ghost use Rattle.std.specs.List.{AllByRecursion};
+    ghost use Rattle.fiber_body.specs.Shown.{IsFrame};
+
+    ghost invariant = { λ body. AllByRecursion IsFrame body.frames.items };
 }
 
 impl Body {
@@ -54,19 +66,18 @@ impl Body {
         value: Value,
         current: CompNo,
     ) -> Result<Body, Memory>
+        requires { text < length (arc_value program.now).texts }
         ensures { IfOk result (λ body. IsNew body (Some (arc_value program.now))
             (record { text = text; value = value; current = current })) }
     {
+        let block = block_of(program, text);
         let program = Some(program.clone()?);
-        Ok(Body::unused(
-            alloc,
-            program,
-            Birth {
-                text,
-                value,
-                current,
-            },
-        ))
+        let birth = Birth {
+            text,
+            value,
+            current,
+        };
+        Ok(Body::unused(alloc, program, birth, block))
     }
 
     /// The body of the clock, which runs no text. It has no number yet.
@@ -78,10 +89,11 @@ impl Body {
             value: 0,
             current: 0,
         };
-        Body::unused(alloc, None, birth)
+        Body::unused(alloc, None, birth, 0)
     }
 
-    fn unused(alloc: Global, program: Option<Arc<Program>>, birth: Birth) -> Body
+    fn unused(alloc: Global, program: Option<Arc<Program>>, birth: Birth, block: u32) -> Body
+        requires { block ≡ block_in (option_map arc_value program) birth.text }
         ensures { IsNew result (option_map arc_value program) birth }
     {
         let mut registers = [0; 16];
@@ -91,8 +103,10 @@ impl Body {
             birth,
             number: None,
             registers,
+            cells: [0; 16],
             steps: STEPS,
-            standing: Standing::At(0),
+            standing: Standing::At { block, place: 0 },
+            frames: Vec::new(alloc),
             noted: Vec::new(alloc),
         }
     }
@@ -134,6 +148,22 @@ impl Body {
         self.registers[place as usize] = value;
     }
 
+    /// The value under the key with this number.
+    pub fn cell(&self, place: u8) -> Value
+        requires { place < 16 }
+        ensures { result ≡ slice_index self.now.cells place }
+    {
+        self.cells[place as usize]
+    }
+
+    /// Puts the value under the key with this number.
+    pub fn set_cell(&mut self, place: u8, value: Value)
+        requires { place < 16 }
+        ensures { self.new ≡ record self.old { cells = slice_set self.old.cells place value } }
+    {
+        self.cells[place as usize] = value;
+    }
+
     /// How many steps it has left.
     pub fn steps(&self) -> u32
         ensures { result ≡ self.now.steps }
@@ -160,5 +190,30 @@ impl Body {
         ensures { self.new ≡ record self.old { standing = standing } }
     {
         self.standing = standing;
+    }
+
+    /// Puts a frame around the block in which it is to stand.
+    pub fn push_frame(&mut self, frame: Frame) -> Result<(), Memory>
+        requires { IsFrame frame }
+        ensures pushed { OnOk result (self.new ≡ record self.old { frames = frame ∷ self.old.frames }) }
+        ensures kept { OnErr result (self.new ≡ self.old) }
+    {
+        self.frames.push(frame)?;
+        Ok(())
+    }
+
+    /// The innermost frame, if anything is around the block in which it stands.
+    pub fn innermost(&self) -> Option<Frame>
+        ensures { result ≡ slice_get self.now.frames 0 }
+    {
+        self.frames.last().copied()
+    }
+
+    /// Takes the innermost frame away, if anything is around the block in which it stands.
+    pub fn pop_frame(&mut self) -> Option<Frame>
+        ensures popped { IsPopped self.old self.new result }
+        ensures frame { IfSome result IsFrame }
+    {
+        self.frames.pop()
     }
 }

@@ -13,6 +13,7 @@
 
 mod body;
 mod carried;
+mod giving;
 mod numbering;
 mod standing;
 mod start;
@@ -20,9 +21,9 @@ mod texts;
 
 pub use body::Body;
 pub use numbering::number_of;
-pub use standing::Standing;
+pub use standing::{Frame, Standing};
 pub use start::start_of;
-pub use texts::stmts_of;
+pub use texts::block_at;
 
 #[cfg(test)]
 mod tests;

@@ -11,6 +11,7 @@ pub fn start_of(program: &Program, limits: Limits) -> Start
     ensures is { result ≡ start_of program.now limits }
     // The root stands, and no program declares more than 576 things.
     ensures few { result.comps ≤ 577 }
+    ensures main { result.text < length program.now.texts }
 {
     Start {
         comps: program.decls.len() as u32 + 1,

@@ -1,6 +1,7 @@
 //! The texts of a program.
 ghost use Rattle.std.specs.Prelude.{◌≡◌, ◌<◌, ◌≤◌, length};
-ghost use Rattle.fiber_body.specs.Texts.{main_text, text_of};
+ghost use Rattle.fiber_body.specs.Meaning.{block_at};
+ghost use Rattle.fiber_body.specs.Texts.{block_of, main_text};
 
 use script_tree::{Program, Stmt};
 
@@ -13,14 +14,19 @@ pub(crate) fn main_text(program: &Program) -> u32
     program.texts.len() as u32 - 1
 }
 
-/// The statements of a text; none where the program has no such text.
-pub fn stmts_of(program: &Program, text: u32) -> &[Stmt]
-    ensures { result.now ≡ text_of program.now text }
+/// The number of a text's block.
+pub(crate) fn block_of(program: &Program, text: u32) -> u32
+    requires { text < length program.now.texts }
+    ensures { result ≡ block_of program.now text }
 {
-    let Some(text) = program.texts.get(text as usize) else {
-        return &[];
-    };
-    match program.blocks.get(text.block as usize) {
+    program.texts[text as usize].block
+}
+
+/// The statements of a block; none where the program has no such block.
+pub fn block_at(program: &Program, block: u32) -> &[Stmt]
+    ensures { result.now ≡ block_at program.now.blocks block }
+{
+    match program.blocks.get(block as usize) {
         Some(block) => block.stmts.as_slice(),
         None => &[],
     }

@@ -1,5 +1,5 @@
 -- The last call of a turn, and what a poll's answer says.
-use Rattle.std.proofs.Common.{◌≡◌, ℕ, false, Option, Some, None, List, [], ◌∷◌, ◌++◌, refl, sym, ap, subst, ◌∙◌, append_assoc}
+use Rattle.std.proofs.Common.{◌≡◌, ℕ, false, Option, Some, None, List, [], ◌∷◌, ◌++◌, refl, sym, ap, subst, ◌∙◌}
 use Rattle.pic_base.specs.declared.outcome.Outcome.{Outcome}
 use Rattle.pic_machine.specs.declared.entry.Call.TheVariants as call
 use Rattle.pic_machine.specs.declared.entry.Entry.{Entry}
@@ -20,11 +20,12 @@ use Rattle.pic_machine.proofs.Turns.{went_stopped}
 use Rattle.script_tree.specs.declared.program.Stmt.TheVariants as stmt
 use Rattle.script_tree.specs.Tree.{Tree}
 use Rattle.fiber_body.specs.declared.standing.Standing.TheVariants.{At, Leaving}
-use Rattle.fiber_body.specs.Meaning.{Context, Does, next, stepped, yield_next}
+use Rattle.fiber_body.specs.Meaning.{Does, Runs, block_at, next, stepped, yield_next}
 use Rattle.fiber_body.specs.Follows.{FollowsText, context_of, ended}
 use Rattle.fiber_body.specs.Shown.{IsSameRest, Shown, carry_of, context_at}
-use Rattle.fiber_body.specs.Texts.{text_in}
-use Rattle.fiber_body.specs.Fits.{Fits, HasLeft, Leads, Stands, behind_end}
+use Rattle.fiber_body.specs.Texts.{block_in, blocks_in}
+use Rattle.fiber_body.specs.Fits.{Fits, HasLeft, Leads, Stands, behind_end, blocks_of}
+use Rattle.fiber_poll.specs.declared.spot.Spot.{Spot}
 use Rattle.fiber_poll.specs.UnderWay.{GaveUp, IsBefore, IsHandedBack, IsOn, IsUp, behind}
 use Rattle.fiber_poll.proofs.Leading.{fits_led, leads_on, leads_up, left_same, same_fiber}
 use Rattle.fiber_poll.proofs.Going.{on_spared, same_number}
@@ -65,26 +66,26 @@ module _ (port : Sight (Option Tree)) (a noted : Shown) where
       record {
         noted = notes.noted ∙ (ap (λ (es : List Entry). es ++ visible (h ∷ [])) up.holds.noted ∙ sym (visible-append hs (h ∷ [])));
         follows = λ script g program mine. subst (λ (n : ℕ). FollowsText script n noted.birth (hs ++ h ∷ [])) (same_fiber noted.number f g number mine)
-            (ended o (subst (λ (p : Option Tree). Rattle.fiber_body.specs.Meaning.Runs f (text_in p noted.birth.text) (context_of noted.birth) hs left.exit left.context) program left.runs) left.ends);
+            (ended o (subst (λ (p : Option Tree). Runs (blocks_in p) f (block_at (blocks_in p) (block_in p noted.birth.text)) (context_of noted.birth) hs left.exit left.context) program left.runs) left.ends);
         stands = λ g mine. subst (λ (n : ℕ). Stands noted n (hs ++ h ∷ [])) (same_fiber noted.number f g number mine) (behind_end o (rest.standing ∙ leaving) left);
       }
 
   -- behind a yield
-  pub fits_yielded : (place : ℕ) → IsUp port a → IsBefore a place stmt.Yield → Notes (carry_of a) (carry_of noted) (record { fiber = fiber_of (carry_of a); call = call.Yield; reply = Plain } ∷ [])
-      → IsSameRest (behind a place) noted → Fits noted (log port.front (fiber_of (carry_of a)) ++ event (fiber_of (carry_of a)) call.Yield Plain ∷ [])
-  fits_yielded place up before notes rest =
+  pub fits_yielded : (spot : Spot) → IsUp port a → IsBefore a spot stmt.Yield → Notes (carry_of a) (carry_of noted) (record { fiber = fiber_of (carry_of a); call = call.Yield; reply = Plain } ∷ [])
+      → IsSameRest (behind a spot) noted → Fits noted (log port.front (fiber_of (carry_of a)) ++ event (fiber_of (carry_of a)) call.Yield Plain ∷ [])
+  fits_yielded spot up before notes rest =
       let f = fiber_of (carry_of a) in
       let hs = log port.front f in
       let h = event f call.Yield Plain in
       let c = stepped (context_at a) in
-      let same : context_at noted ≡ c = rw (rest.registers, rest.steps, notes.birth) refl in
-      let does : Does f stmt.Yield c (h ∷ []) next (context_at noted) = subst (Does f stmt.Yield c (h ∷ []) next) (sym same) yield_next in
+      let same : context_at noted ≡ c = rw (rest.registers, rest.cells, rest.steps, notes.birth) refl in
+      let does : Does (blocks_of a) f stmt.Yield c (h ∷ []) next (context_at noted) = subst (Does (blocks_of a) f stmt.Yield c (h ∷ []) next) (sym same) yield_next in
       fits_led noted f (hs ++ h ∷ []) (notes.number ∙ up.holds.number)
       (notes.noted ∙ (ap (λ (es : List Entry). es ++ visible (h ∷ [])) up.holds.noted ∙ sym (visible-append hs (h ∷ []))))
-      (leads_on a noted f place hs (h ∷ []) stmt.Yield before notes.share notes.birth rest.standing does (leads_up port a up))
+      (leads_on a noted f spot hs (h ∷ []) stmt.Yield before.here before.steps notes.share notes.birth rest.frames rest.standing does (leads_up port a up))
 
 -- a yield was refused, and the body is set back before it
-pub set_back : (p q : Sight (Option Tree)) (a b : Shown) (place : ℕ) (told : Option (List ℕ)) → IsUp p a → IsBefore a place stmt.Yield → Spared p q (carry_of (behind a place)) (carry_of b) → IsSameRest (behind a place) b
-    → IsOn p q a (record b { steps = a.steps; standing = At place }) told told
-set_back p q a b place told up before spared rest =
-    on_spared p q a (record b { steps = a.steps; standing = At place }) told up spared (record { registers = rest.registers; steps = refl; standing = sym before.at })
+pub set_back : (p q : Sight (Option Tree)) (a b : Shown) (spot : Spot) (told : Option (List ℕ)) → IsUp p a → IsBefore a spot stmt.Yield → Spared p q (carry_of (behind a spot)) (carry_of b) → IsSameRest (behind a spot) b
+    → IsOn p q a (record b { steps = a.steps; standing = At spot.block spot.place }) told told
+set_back p q a b spot told up before spared rest =
+    on_spared p q a (record b { steps = a.steps; standing = At spot.block spot.place }) told up spared (record { registers = rest.registers; cells = rest.cells; steps = refl; standing = sym before.here.at; frames = rest.frames })

@@ -1,9 +1,6 @@
 -- How a turn goes on, call by call: what each call leaves is told by where its log leads.
-use Rattle.std.proofs.Common.{◌≡◌, ◌≢◌, ℕ, zero, suc, ◌+◌, ◌<◌, ◌≤◌, false, Option, Some, None, List, [], ◌∷◌, ◌++◌, slice_get, slice_index, length, refl, sym, ap, subst, ◌∙◌, append-nil, get_or, arith}
-use Rattle.std.proofs.lemmas.Option.{slice_get_read}
+use Rattle.std.proofs.Common.{◌≡◌, ◌≢◌, ℕ, ◌+◌, ◌<◌, false, Option, Some, List, [], ◌∷◌, ◌++◌, slice_get, refl, sym, ap, subst, ◌∙◌, append-nil}
 use Rattle.pic_base.specs.declared.duty.Duty.{Duty}
-use Rattle.pic_base.specs.declared.outcome.Outcome.{Outcome}
-use Rattle.pic_base.specs.declared.outcome.Outcome.TheVariants.{Returned, Cancelled}
 use Rattle.pic_machine.specs.declared.entry.Call.{Call}
 use Rattle.pic_machine.specs.declared.entry.Happened.{Happened}
 use Rattle.pic_machine.specs.declared.port.PortFault.{PortFault}
@@ -20,14 +17,16 @@ use Rattle.pic_machine.specs.Turning.{Adds, Went}
 use Rattle.pic_machine.proofs.Turns.{Went-trans, grew_made, grew_others, went_lent, went_none, went_spared}
 use Rattle.script_tree.specs.declared.program.Stmt.{Stmt}
 use Rattle.script_tree.specs.Tree.{Tree}
-use Rattle.fiber_body.specs.declared.standing.Standing.TheVariants.{At, Leaving}
-use Rattle.fiber_body.specs.Meaning.{Context, Does, next, raised, stepped}
+use Rattle.fiber_body.specs.declared.standing.Standing.TheVariants.{At}
+use Rattle.fiber_body.specs.Meaning.{Context, Does, block_at, next, raised, stepped}
+use Rattle.fiber_body.specs.Texts.{blocks_in}
 use Rattle.fiber_body.specs.Shown.{IsSameRest, Shown, carry_of, context_at}
-use Rattle.fiber_body.specs.Fits.{Fits, HasLeft, Leads, stmts_of_body}
-use Rattle.fiber_body.specs.Follows.{no_step}
+use Rattle.fiber_body.specs.Fits.{Fits, Leads, blocks_of}
 use Rattle.fiber_body.specs.Laws.{fits_same}
+use Rattle.fiber_poll.specs.declared.spot.Spot.{Spot}
+use Rattle.fiber_poll.specs.Moving.{Moves, Settles, spent_step}
 use Rattle.fiber_poll.specs.UnderWay.{GaveUp, IsBefore, IsOn, IsUp}
-use Rattle.fiber_poll.proofs.Leading.{leads_end, leads_on, leads_raised, leads_spent, leads_up, left_same, same_stmts, up_led}
+use Rattle.fiber_poll.proofs.Leading.{begun_is, can_begin, leads_on, leads_out, leads_up, up_led}
 
 -- ---- calls that may be made
 
@@ -52,50 +51,18 @@ can_make port body call up none room names = record {
   room = room;
 }
 
--- ---- a body that leaves its text
-
-one_of : (ss : List Stmt) (place : ℕ) → place < length ss → (s : Stmt) × (slice_get ss place ≡ Some s)
-one_of [] place within = absurd (omega (arith, within))
-one_of (s ∷ ss) zero within = (s, refl)
-one_of (s ∷ ss) (suc place) within = one_of ss place (omega (arith, within))
-
-pub left_up : (port : Sight (Option Tree)) (a : Shown) (o : Outcome) → IsUp port a → HasLeft a (fiber_of (carry_of a)) (log port.front (fiber_of (carry_of a))) o → IsUp port (record a { standing = Leaving o })
-left_up port a o up left =
-    let f = fiber_of (carry_of a) in
-    let d : Shown = record a { standing = Leaving o } in
-    up_led port d f up.holds refl up.fiber (left_same a d f (log port.front f) o refl refl left)
-
--- at its end
-pub end_up : (port : Sight (Option Tree)) (a : Shown) (place : ℕ) → IsUp port a → a.standing ≡ At place → slice_get (stmts_of_body a) place ≡ None → IsUp port (record a { standing = Leaving (Returned (slice_index a.registers 0)) })
-end_up port a place up at none =
-    let f = fiber_of (carry_of a) in
-    left_up port a (Returned (slice_index a.registers 0)) up (leads_end a f place (log port.front f) at none (leads_up port a up))
-
--- without a step
-pub spent_up : (port : Sight (Option Tree)) (a : Shown) (place : ℕ) (ss : List Stmt) → IsUp port a → ss ≡ stmts_of_body a → a.standing ≡ At place → place < length ss → a.steps ≡ 0 → IsUp port (record a { standing = Leaving (Cancelled no_step) })
-spent_up port a place ss up stmts at within steps =
-    let f = fiber_of (carry_of a) in
-    let s = one_of ss place within in
-    let is : slice_get (stmts_of_body a) place ≡ Some s.0 = subst (λ (xs : List Stmt). slice_get xs place ≡ Some s.0) stmts s.1 in
-    left_up port a (Cancelled no_step) up (leads_spent a f place (log port.front f) s.0 at is steps (leads_up port a up))
-
 -- ---- a body before a statement
 
-pub stands_before : (a : Shown) (place : ℕ) (ss : List Stmt) (s : Stmt) → ss ≡ stmts_of_body a → length ss ≤ 10000 → a.standing ≡ At place → place < length ss → s ≡ get_or ss place s → (a.steps ≡ 0 → ⊥) → IsBefore a place s
-stands_before a place ss s stmts few at within is some = record {
-  at = at;
-  is = subst (λ (xs : List Stmt). slice_get xs place ≡ Some s) stmts (slice_get_read ss (length ss) place s refl within is);
-  steps = omega (arith, some);
-  within = omega (arith, few, within);
-}
-
 -- room that was made leaves it there
-pub before_reserved : (a b : Shown) (place : ℕ) (s : Stmt) → IsBefore a place s → Notes (carry_of a) (carry_of b) [] → IsSameRest a b → IsBefore b place s
-before_reserved a b place s before notes rest = record {
-  at = rest.standing ∙ before.at;
-  is = subst (λ (ss : List Stmt). slice_get ss place ≡ Some s) (sym (same_stmts a b notes.share notes.birth)) before.is;
+pub before_reserved : (a b : Shown) (spot : Spot) (s : Stmt) → IsBefore a spot s → Notes (carry_of a) (carry_of b) [] → IsSameRest a b → IsBefore b spot s
+before_reserved a b spot s before notes rest = record {
+  here = record {
+    at = rest.standing ∙ before.here.at;
+    is = subst (λ (p : Option Tree). slice_get (block_at (blocks_in p) spot.block) spot.place ≡ Some s) (sym notes.share) before.here.is;
+    within = before.here.within;
+  };
+  costs = before.costs;
   steps = subst (λ (n : ℕ). 0 < n) (sym rest.steps) before.steps;
-  within = before.within;
 }
 
 -- ---- parts of a turn
@@ -206,15 +173,32 @@ module _ (p q : Sight (Option Tree)) (a d : Shown) (before now : Option (List �
       }
 
   -- the statement goes on
-  pub on_made : (place : ℕ) (s : Stmt) → IsUp p a → IsBefore a place s → Lent p q (carry_of a) (carry_of d) h → h.entry.fiber ≡ fiber_of (carry_of a) → is_turn h.entry.call ≡ false → GoesOn h → Adds before now (readied (h ∷ []))
-      → d.standing ≡ At (place + 1) → Does (fiber_of (carry_of a)) s (stepped (context_at a)) (h ∷ []) next (context_at d) → IsOn p q a d before now
-  on_made place s up stands lent mine within on line standing does =
+  pub on_made : (spot : Spot) (s : Stmt) → IsUp p a → IsBefore a spot s → Lent p q (carry_of a) (carry_of d) h → h.entry.fiber ≡ fiber_of (carry_of a) → is_turn h.entry.call ≡ false → GoesOn h → Adds before now (readied (h ∷ []))
+      → d.frames ≡ a.frames → d.standing ≡ At spot.block (spot.place + 1) → Does (blocks_of a) (fiber_of (carry_of a)) s (stepped (context_at a)) (h ∷ []) next (context_at d) → IsOn p q a d before now
+  on_made spot s up stands lent mine within on line frames standing does =
       let f = fiber_of (carry_of a) in
-      on_lent up lent mine within on line (leads_on a d f place (log p.front f) (h ∷ []) s stands lent.share lent.birth standing does (leads_up p a up))
+      on_lent up lent mine within on line
+      (leads_on a d f spot (log p.front f) (h ∷ []) s stands.here (can_begin s (context_at a) stands.costs stands.steps) lent.share lent.birth frames standing
+      (subst (λ (c : Context). Does (blocks_of a) f s c (h ∷ []) next (context_at d)) (sym (begun_is s (context_at a) stands.costs)) does) (leads_up p a up))
 
   -- the statement raises a code
-  pub on_raised : (place : ℕ) (s : Stmt) (code : ℕ) (c : Context) → IsUp p a → IsBefore a place s → Lent p q (carry_of a) (carry_of d) h → h.entry.fiber ≡ fiber_of (carry_of a) → is_turn h.entry.call ≡ false → GoesOn h → Adds before now (readied (h ∷ []))
-      → d.standing ≡ Leaving (Cancelled code) → Does (fiber_of (carry_of a)) s (stepped (context_at a)) (h ∷ []) (raised code) c → IsOn p q a d before now
-  on_raised place s code c up stands lent mine within on line standing does =
+  pub on_raised : (b : Shown) (spot : Spot) (s : Stmt) (code : ℕ) → IsUp p a → IsBefore a spot s → Lent p q (carry_of a) (carry_of b) h → h.entry.fiber ≡ fiber_of (carry_of a) → is_turn h.entry.call ≡ false → GoesOn h → Adds before now (readied (h ∷ []))
+      → b.frames ≡ a.frames → Settles (raised code) (spent_step b) d → Does (blocks_of a) (fiber_of (carry_of a)) s (stepped (context_at a)) (h ∷ []) (raised code) (context_at (spent_step b)) → IsOn p q a d before now
+  on_raised b spot s code up stands lent mine within on line frames settles does =
       let f = fiber_of (carry_of a) in
-      on_lent up lent mine within on line (leads_raised a d f place (log p.front f) (h ∷ []) s code c stands lent.share lent.birth standing does (leads_up p a up))
+      on_lent up (subst (λ (c : Carry (Option Tree)). Lent p q (carry_of a) c h) (sym settles.same) lent) mine within on line
+      (settles.leads f (log p.front f ++ h ∷ [])
+      (leads_out a (spent_step b) f spot (log p.front f) (h ∷ []) s (raised code) stands.here (can_begin s (context_at a) stands.costs stands.steps) lent.share lent.birth frames (λ q. cc)
+      (subst (λ (c : Context). Does (blocks_of a) f s c (h ∷ []) (raised code) (context_at (spent_step b))) (sym (begun_is s (context_at a) stands.costs)) does) (leads_up p a up)))
+
+-- the body moved on without a call
+pub on_moved : (p : Sight (Option Tree)) (a b : Shown) (told : Option (List ℕ)) → IsUp p a → Moves a b → IsOn p p a b told told
+on_moved p a b told up moves =
+    let notes : Notes (carry_of a) (carry_of b) [] = record {
+      birth = ap (λ (c : Carry (Option Tree)). c.birth) moves.same;
+      number = ap (λ (c : Carry (Option Tree)). c.number) moves.same;
+      noted = ap (λ (c : Carry (Option Tree)). c.noted) moves.same ∙ sym (append-nil a.noted);
+      owes = ap (λ (c : Carry (Option Tree)). c.owes) moves.same;
+      share = ap (λ (c : Carry (Option Tree)). c.share) moves.same;
+    } in
+    on_quiet p a b told up notes (moves.leads (fiber_of (carry_of a)) (log p.front (fiber_of (carry_of a))) (leads_up p a up))

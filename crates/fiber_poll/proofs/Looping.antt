@@ -1,66 +1,101 @@
 -- What stands between two statements of a turn.
-use Rattle.std.proofs.Common.{◌≡◌, ℕ, Option, Some, List, slice_get, get_or, sym, ap, subst, ◌∙◌}
+use Rattle.std.proofs.Common.{◌≡◌, ℕ, ◌+◌, ◌*◌, ◌≤◌, inl, inr, ◌⊎◌, Option, Some, None, List, [], ◌++◌, drop, length, slice_get, refl, sym, ap, subst, ◌∙◌, arith}
 use Rattle.std.specs.Prelude.{IsTrue}
-use Rattle.std.proofs.lemmas.Option.{get_or_from_slice_get}
+use Rattle.std.proofs.lemmas.Option.{slice_get_within}
 use Rattle.pic_machine.specs.declared.port.PortFault.{PortFault}
 use Rattle.pic_machine.specs.declared.port.PortFault.TheVariants.{Full, Again, Memory}
-use Rattle.pic_machine.specs.Sight.{Carry, Sight}
-use Rattle.pic_machine.specs.Turning.{Went}
+use Rattle.pic_machine.specs.Log.{log}
+use Rattle.pic_machine.specs.Sight.{Sight, fiber_of}
 use Rattle.pic_machine.proofs.Turns.{rose_from}
 use Rattle.script_tree.specs.declared.program.Stmt.{Stmt}
 use Rattle.script_tree.specs.Tree.{Tree}
-use Rattle.fiber_body.specs.Shown.{Shown, carry_of}
-use Rattle.fiber_body.specs.Fits.{stmts_of_body}
-use Rattle.fiber_body.specs.Texts.{text_in, text_of}
+use Rattle.fiber_body.specs.Shown.{Shown, carry_of, context_at}
+use Rattle.script_tree.specs.declared.program.Stmt.TheVariants as stmt
+use Rattle.script_tree.specs.WellFormed.{IsWellFormed}
+use Rattle.fiber_body.specs.declared.standing.Standing.{Standing}
+use Rattle.fiber_body.specs.declared.standing.Standing.TheVariants.{At}
+use Rattle.fiber_body.specs.Fits.{Leads, blocks_of}
+use Rattle.fiber_body.specs.Follows.{context_of}
+use Rattle.fiber_body.specs.Meaning.{Runs, block_at, break_broke, broke, done, next}
+use Rattle.fiber_body.specs.Texts.{block_in, blocks_in}
+use Rattle.fiber_poll.specs.declared.spot.Spot.{Spot}
+use Rattle.fiber_poll.specs.Moving.{HasLoop, LeadsOut, Moves, Settles, spent_step, weight, weight_at}
 use Rattle.fiber_poll.specs.Laws.{port_later}
 use Rattle.fiber_poll.specs.Built.{is_built}
 use Rattle.fiber_poll.specs.Polls.{IsPortOf}
 use Rattle.fiber_poll.specs.Ranges.{CanRun}
-use Rattle.fiber_poll.specs.UnderWay.{GaveUp, IsBefore, IsOn, IsUp}
-use Rattle.fiber_poll.proofs.Leading.{same_stmts}
+use Rattle.fiber_poll.specs.UnderWay.{GaveUp, IsAt, IsBefore, IsOn, IsUp}
+use Rattle.fiber_poll.proofs.Breaks.{never_broke}
+use Rattle.fiber_poll.proofs.Framing.{loop_or_broke}
+use Rattle.fiber_poll.proofs.Leading.{leads_out, leads_up, past_end}
 
--- the body's statements are those of its text in the program
-stmts_up : (script : Tree) (port : Sight (Option Tree)) (body : Shown) (text : ℕ) → IsPortOf script port → IsUp port body → text ≡ body.birth.text → text_of script text ≡ stmts_of_body body
-stmts_up script port body text of up is =
-    let program : body.program ≡ Some script = up.holds.share up.fiber ∙ of.share in
-    ap (text_of script) is ∙ ap (λ (p : Option Tree). text_in p body.birth.text) (sym program)
+-- the body's program is the poller's
+program_up : (script : Tree) (port : Sight (Option Tree)) (body : Shown) → IsPortOf script port → IsUp port body → body.program ≡ Some script
+program_up script port body of up = up.holds.share up.fiber ∙ of.share
 
-pub text_there : (script : Tree) (port : Sight (Option Tree)) (body : Shown) (tree : Tree) (ss : List Stmt) (text : ℕ) → IsPortOf script port → IsUp port body → tree ≡ script → text ≡ body.birth.text → ss ≡ text_of tree text → ss ≡ stmts_of_body body
-text_there script port body tree ss text of up same is stmts = stmts ∙ (ap (λ (t : Tree). text_of t text) same ∙ stmts_up script port body text of up is)
+-- the block's statements are the body's
+pub block_up : (script tree : Tree) (port : Sight (Option Tree)) (body : Shown) (ss : List Stmt) (block : ℕ) → IsPortOf script port → IsUp port body → tree ≡ script → ss ≡ block_at tree.blocks block
+    → ss ≡ block_at (blocks_of body) block
+block_up script tree port body ss block of up same stmts =
+    stmts ∙ (ap (λ (t : Tree). block_at t.blocks block) same ∙ ap (λ (p : Option Tree). block_at (blocks_in p) block) (sym (program_up script port body of up)))
 
-pub can_picked : (script tree : Tree) (ss : List Stmt) (text place : ℕ) (s : Stmt) → tree ≡ script → ss ≡ text_of tree text → IsTrue (is_built script) → slice_get ss place ≡ Some s
-    → (IsTrue (is_built tree) → (k : ℕ) (x : Stmt) → slice_get (text_of tree text) k ≡ Some x → CanRun tree x) → CanRun script s
-can_picked script tree ss text place s same stmts built there can =
+-- the body stands before the statement that was found
+pub at_found : (script tree : Tree) (port : Sight (Option Tree)) (body : Shown) (ss : List Stmt) (block place : ℕ) (s : Stmt) → IsPortOf script port → IsUp port body → tree ≡ script → ss ≡ block_at tree.blocks block
+    → length ss ≤ 10000 → body.standing ≡ At block place → slice_get ss place ≡ Some s → IsAt body (record { block = block; place = place }) s
+at_found script tree port body ss block place s of up same stmts few at is = record {
+  at = at;
+  is = subst (λ (xs : List Stmt). slice_get xs place ≡ Some s) (block_up script tree port body ss block of up same stmts) is;
+  within = (let there = slice_get_within ss place s is in omega (arith, there, few));
+}
+
+pub can_found : (script tree : Tree) (ss : List Stmt) (block place : ℕ) (s : Stmt) → tree ≡ script → ss ≡ block_at tree.blocks block → IsTrue (is_built script) → slice_get ss place ≡ Some s
+    → (IsTrue (is_built tree) → (k : ℕ) (x : Stmt) → slice_get (block_at tree.blocks block) k ≡ Some x → CanRun tree x) → CanRun script s
+can_found script tree ss block place s same stmts built there can =
     subst (λ (t : Tree). CanRun t s) same
     (can (subst (λ (t : Tree). IsTrue (is_built t)) (sym same) built) place s (subst (λ (xs : List Stmt). slice_get xs place ≡ Some s) stmts there))
+
+-- at its end the innermost block is left
+pub ended_moves : (script tree : Tree) (port : Sight (Option Tree)) (a b : Shown) (ss : List Stmt) (block place : ℕ) → IsPortOf script port → IsUp port a → tree ≡ script → ss ≡ block_at tree.blocks block
+    → a.standing ≡ At block place → slice_get ss place ≡ None → Settles next a b → Moves a b
+ended_moves script tree port a b ss block place of up same stmts at none settles =
+    let past : drop place (block_at (blocks_of a) block) ≡ [] =
+    past_end (block_at (blocks_of a) block) place (subst (λ (xs : List Stmt). slice_get xs place ≡ None) (block_up script tree port a ss block of up same stmts) none) in
+    let there : weight a ≡ 1 + (3 * a.steps + length a.frames) = ap (λ (st : Standing). weight_at st a.steps (length a.frames)) at in
+    record {
+      same = settles.same;
+      leads = λ f hs leads. settles.leads f hs (λ rest y d around. subst (Leads a f hs) at leads rest y d (record {
+        front = [];
+        back = rest;
+        exit = next;
+        context = context_at a;
+        first = subst (λ (xs : List Stmt). Runs (blocks_of a) f xs (context_at a) [] next (context_at a)) (sym past) done;
+        second = around;
+        is = refl;
+      }));
+      lighter = omega (arith, there, settles.lighter);
+    }
+
+in_loop : {A B : Type 0} → A ⊎ B → (B → ⊥) → A
+in_loop (inl a) not = a
+in_loop (inr b) not = absurd (not b)
+
+-- a break stands in a loop
+pub loop_around : (script : Tree) (port : Sight (Option Tree)) (a : Shown) (spot : Spot) → IsPortOf script port → IsUp port a → IsWellFormed script → IsBefore a spot stmt.Break → HasLoop a.frames
+loop_around script port a spot of up formed before =
+    let f = fiber_of (carry_of a) in
+    let hs = log port.front f in
+    let out : LeadsOut (spent_step a) f (hs ++ []) broke =
+    leads_out a (spent_step a) f spot hs [] stmt.Break broke before.here before.steps refl refl refl (λ q. cc) break_broke (leads_up port a up) in
+    in_loop (loop_or_broke (blocks_of a) f a.frames (context_at (spent_step a)))
+    (λ around. never_broke script f a.birth.text (context_of a.birth) (context_at (spent_step a)) ((hs ++ []) ++ []) formed
+    (subst (λ (p : Option Tree). Runs (blocks_in p) f (block_at (blocks_in p) (block_in p a.birth.text)) (context_of a.birth) ((hs ++ []) ++ []) broke (context_at (spent_step a))) (program_up script port a of up)
+    (out [] broke (context_at (spent_step a)) around)))
 
 module _ (p q : Sight (Option Tree)) (a b : Shown) (start now : Option (List ℕ)) where
   pub port_stays : (script : Tree) → IsPortOf script p → IsOn p q a b start now → IsPortOf script q
   port_stays script of on = port_later script p q of on.went.grew.later.origin on.went.grew.later.share
 
-  pub stmts_stay : IsOn p q a b start now → stmts_of_body b ≡ stmts_of_body a
-  stmts_stay on = same_stmts a b on.program on.birth
-
-  -- the body left its text, or not
-  pub on_settled : (d : Shown) → IsOn p q a b start now → carry_of d ≡ carry_of b → IsUp q d → IsOn p q a d start now
-  on_settled d on same up = record {
-    went = subst (λ (c : Carry (Option Tree)). Went p q (carry_of a) c start now) (sym same) on.went;
-    up = up;
-    birth = ap (λ (c : Carry (Option Tree)). c.birth) same ∙ on.birth;
-    program = ap (λ (c : Carry (Option Tree)). c.share) same ∙ on.program;
-  }
-
   pub gave_up_after : (r : Sight (Option Tree)) (fault : PortFault) → IsOn p q a b start now → GaveUp fault q r → GaveUp fault p r
   gave_up_after r Full on why = why
   gave_up_after r Again on why = rose_from p.contention q.contention r.contention on.went.grew.later.steady why
   gave_up_after r Memory on why = tt
-
-  -- the next statement stands in the text
-  pub stmt_there : (d : Shown) (ss : List Stmt) (place : ℕ) (s : Stmt) → ss ≡ stmts_of_body a → IsOn p q a b start now → carry_of d ≡ carry_of b → IsUp q d → IsBefore d place s → slice_get ss place ≡ Some s
-  stmt_there d ss place s stmts on same up before =
-      let settled : IsOn p q a d start now = on_settled d on same up in
-      subst (λ (xs : List Stmt). slice_get xs place ≡ Some s) (same_stmts a d settled.program settled.birth ∙ sym stmts) before.is
-
-  -- and is the one at the place
-  pub stmt_picked : (d : Shown) (ss : List Stmt) (place : ℕ) (s x : Stmt) → ss ≡ stmts_of_body a → IsOn p q a b start now → carry_of d ≡ carry_of b → IsUp q d → IsBefore d place s → x ≡ get_or ss place x → s ≡ x
-  stmt_picked d ss place s x stmts on same up before is = sym (get_or_from_slice_get ss place s x (stmt_there d ss place s stmts on same up before)) ∙ sym is

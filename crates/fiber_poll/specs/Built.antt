@@ -7,7 +7,7 @@ use Rattle.script_tree.specs.declared.program.Decl.{Decl}
 use Rattle.script_tree.specs.declared.program.Kind.{Kind}
 use Rattle.script_tree.specs.declared.program.Kind.TheVariants.{Comp}
 use Rattle.script_tree.specs.declared.program.Stmt.{Stmt}
-use Rattle.script_tree.specs.declared.program.Stmt.TheVariants.{Set, Say, Return, Cancel, Peek, Spawn, Yield}
+use Rattle.script_tree.specs.declared.program.Stmt.TheVariants.{Set, Add, Sub, Mul, Put, Get, Say, Raise, Break, Return, Cancel, Peek, Spawn, Yield, If, Loop, Try}
 use Rattle.script_tree.specs.Tree.{Tree}
 
 abbrev pub is_built_kind : Kind → Bool
@@ -22,15 +22,25 @@ is_built_comp (PromiseIn register) = false
 
 abbrev pub is_built_stmt : Stmt → Bool
 is_built_stmt (Set r v) = true
+is_built_stmt (Add r v) = true
+is_built_stmt (Sub r v) = true
+is_built_stmt (Mul r v) = true
+is_built_stmt (Put k v) = true
+is_built_stmt (Get r k) = true
 is_built_stmt (Say v) = true
+is_built_stmt (Raise v) = true
+is_built_stmt Break = true
 is_built_stmt (Return r c v) = is_built_comp c
 is_built_stmt (Cancel r c v) = is_built_comp c
 is_built_stmt (Peek r q c) = is_built_comp c
 is_built_stmt (Spawn text v) = true
 is_built_stmt Yield = true
+is_built_stmt (If a t b p q) = true
+is_built_stmt (Loop p) = true
+is_built_stmt (Try p r h) = true
 is_built_stmt _ = false
 
--- the statements of every text, each of which is a block of its own
+-- the statements of every block
 abbrev pub is_built : Tree → Bool
 is_built tree =
     list_all (λ (d : Decl). is_built_kind d.kind) tree.decls && list_all (λ (block : List Stmt). list_all is_built_stmt block) tree.blocks

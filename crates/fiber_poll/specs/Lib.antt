@@ -3,4 +3,5 @@ pub mod Polls
 pub mod Laws
 pub mod Few
 pub mod Ranges
+pub mod Moving
 pub mod UnderWay

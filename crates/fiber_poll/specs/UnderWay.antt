@@ -1,9 +1,10 @@
 -- What stands while a turn of a script's fiber is under way.
-use Rattle.std.specs.Prelude.{◌≡◌, ◌≢◌, ℕ, ◌+◌, ◌-◌, ◌<◌, ◌^◌, Option, Some, List, [], ◌∷◌, slice_get, ⊤}
+use Rattle.std.specs.Prelude.{◌≡◌, ◌≢◌, ℕ, ◌+◌, ◌-◌, ◌<◌, ◌^◌, Bool, true, false, Option, Some, None, List, [], ◌∷◌, slice_get, ⊤}
 use Rattle.pic_base.specs.declared.outcome.Outcome.{Outcome}
 use Rattle.pic_machine.specs.declared.entry.Call.TheVariants as call
 use Rattle.pic_machine.specs.declared.entry.CompleteReply.{CompleteReply}
 use Rattle.pic_machine.specs.declared.entry.Reply.TheVariants.{Completed, Peeked}
+use Rattle.pic_machine.specs.declared.entry.Happened.{Happened}
 use Rattle.pic_machine.specs.declared.poller.Turn.{Turn}
 use Rattle.pic_machine.specs.declared.poller.Turn.TheVariants as turn
 use Rattle.pic_machine.specs.declared.port.PortFault.{PortFault}
@@ -17,13 +18,13 @@ use Rattle.script_tree.specs.declared.program.Stmt.{Stmt}
 use Rattle.script_tree.specs.declared.program.Stmt.TheVariants as stmt
 use Rattle.script_tree.specs.Tree.{Tree}
 use Rattle.fiber_body.specs.declared.standing.Standing.TheVariants.{At, Leaving}
-use Rattle.fiber_body.specs.Fits.{Fits, stmts_of_body}
-use Rattle.fiber_body.specs.Meaning.{Does, next, outcome_number, state_number, stepped, with_register, won}
+use Rattle.fiber_body.specs.Fits.{Fits, blocks_of}
+use Rattle.fiber_body.specs.Meaning.{Context, CostsStep, Does, Exit, Runs, block_at, else_at, next, outcome_number, overflow, raised, state_number, stepped, with_register, won}
 use Rattle.fiber_body.specs.Shown.{Shown, carry_of, context_at}
-use Rattle.fiber_poll.specs.declared.next.Next.{Next}
-use Rattle.fiber_poll.specs.declared.next.Next.TheVariants.{Run, Stop}
-use Rattle.fiber_poll.specs.declared.next.Last.{Last}
-use Rattle.fiber_poll.specs.declared.next.Last.TheVariants.{Yield, End}
+use Rattle.fiber_poll.specs.declared.spot.Spot.{Spot}
+use Rattle.fiber_poll.specs.declared.spot.Last.{Last}
+use Rattle.fiber_poll.specs.declared.spot.Last.TheVariants.{Yield, End}
+use Rattle.fiber_poll.specs.Moving.{weight}
 
 -- the port has the body of a fiber out, and the body stands where the fiber's log leads
 pub record IsUp (port : Sight (Option Tree)) (body : Shown) : Type 0 where
@@ -38,42 +39,78 @@ pub record IsOn (old new : Sight (Option Tree)) (body later : Shown) (before now
   pub birth : later.birth ≡ body.birth
   pub program : later.program ≡ body.program
 
--- the body stands before this statement, and has a step for it
-pub record IsBefore (body : Shown) (place : ℕ) (s : Stmt) : Type 0 where
-  pub at : body.standing ≡ At place
-  pub is : slice_get (stmts_of_body body) place ≡ Some s
+-- the body stands before this statement
+pub record IsAt (body : Shown) (spot : Spot) (s : Stmt) : Type 0 where
+  pub at : body.standing ≡ At spot.block spot.place
+  pub is : slice_get (block_at (blocks_of body) spot.block) spot.place ≡ Some s
+  pub within : spot.place + 1 < 2 ^ 64
+
+-- the body stands before this statement, which costs a step, and has one for it
+pub record IsBefore (body : Shown) (spot : Spot) (s : Stmt) : Type 0 where
+  pub here : IsAt body spot s
+  pub costs : CostsStep s
   pub steps : 0 < body.steps
-  pub within : place + 1 < 2 ^ 64
 
 -- the body once the statement at this place is made
-abbrev pub behind : Shown → ℕ → Shown
-behind body place = record body { steps = body.steps - 1; standing = At (place + 1) }
+abbrev pub behind : Shown → Spot → Shown
+behind body spot = record body { steps = body.steps - 1; standing = At spot.block (spot.place + 1) }
+
+-- the statement has this number for the register, or its result is no number of a script
+abbrev pub Computes : Shown → Stmt → ℕ → Option ℕ → Type 0
+Computes body s register (Some value) = (f : ℕ) → Does (blocks_of body) f s (stepped (context_at body)) [] next
+    (with_register (stepped (context_at body)) register value)
+Computes body s register None = (f : ℕ) → Does (blocks_of body) f s (stepped (context_at body)) [] (raised overflow)
+    (stepped (context_at body))
+
+-- the body stands before a statement that has this result for the register
+pub record IsBeforeResult (body : Shown) (spot : Spot) (register : ℕ) (result : Option ℕ) : Type 0 where
+  pub s : Stmt
+  pub before : IsBefore body spot s
+  pub does : Computes body s register result
+
+-- the body stands before a statement that runs this block, or none
+pub record IsBeforeBlock (body : Shown) (spot : Spot) (block : Option ℕ) : Type 0 where
+  pub s : Stmt
+  pub before : IsBefore body spot s
+  pub does : (f : ℕ) (xs : List Happened) (x : Exit) (d : Context)
+      → Runs (blocks_of body) f (else_at (blocks_of body) block) (stepped (context_at body)) xs x d
+      → Does (blocks_of body) f s (stepped (context_at body)) xs x d
 
 -- the body stands before a statement that completes a computation, and tells in a register whether it did
-pub record IsBeforeComplete (body : Shown) (place register comp : ℕ) (outcome : Outcome) : Type 0 where
+pub record IsBeforeComplete (body : Shown) (spot : Spot) (register comp : ℕ) (outcome : Outcome) : Type 0 where
   pub s : Stmt
-  pub before : IsBefore body place s
-  pub does : (f : ℕ) (reply : CompleteReply) → Does f s (stepped (context_at body))
+  pub before : IsBefore body spot s
+  pub does : (f : ℕ) (reply : CompleteReply) → Does (blocks_of body) f s (stepped (context_at body))
       (event f (call.Complete comp outcome) (Completed reply) ∷ []) next
       (with_register (stepped (context_at body)) register (won reply))
 
 -- the same of one that looks at a computation, and tells in two registers what it saw
-pub record IsBeforePeek (body : Shown) (place state value comp : ℕ) : Type 0 where
+pub record IsBeforePeek (body : Shown) (spot : Spot) (state value comp : ℕ) : Type 0 where
   pub s : Stmt
-  pub before : IsBefore body place s
-  pub does : (f : ℕ) (seen : Option Outcome) → Does f s (stepped (context_at body))
+  pub before : IsBefore body spot s
+  pub does : (f : ℕ) (seen : Option Outcome) → Does (blocks_of body) f s (stepped (context_at body))
       (event f (call.Peek comp) (Peeked seen) ∷ []) next
       (with_register (with_register (stepped (context_at body)) state (state_number seen)) value (outcome_number seen))
 
 -- what ends a turn: the body stands before a yield, or has left its text
 abbrev pub IsLast : Shown → Last → Type 0
-IsLast body (Yield place) = IsBefore body place stmt.Yield
+IsLast body (Yield spot) = IsBefore body spot stmt.Yield
 IsLast body (End outcome) = body.standing ≡ Leaving outcome
 
--- what is next: a statement that isn't a yield, or the turn's last call
-abbrev pub IsNext : Shown → Next → Type 0
-IsNext body (Run place) = (s : Stmt) × IsBefore body place s × (s ≢ stmt.Yield)
-IsNext body (Stop last) = IsLast body last
+-- the turn goes on, with less to do, or its last call is next
+abbrev pub IsStep : Shown → Shown → Option Last → Type 0
+IsStep old new None = weight new < weight old
+IsStep old new (Some last) = IsLast new last
+
+-- the statements that a port's call is made for
+abbrev pub makes_entry : Stmt → Bool
+makes_entry (stmt.Say v) = true
+makes_entry (stmt.Return r c v) = true
+makes_entry (stmt.Cancel r c v) = true
+makes_entry (stmt.Peek r q c) = true
+makes_entry (stmt.Spawn text v) = true
+makes_entry stmt.Yield = true
+makes_entry _ = false
 
 -- why a turn is broken off: another port was in the way, or memory was wanted
 abbrev pub GaveUp : PortFault → Sight (Option Tree) → Sight (Option Tree) → Type 0

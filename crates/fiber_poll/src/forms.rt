@@ -5,7 +5,7 @@ ghost use Rattle.fiber_poll.specs.Built.{is_built, is_built_comp, is_built_kind,
 
 use script_tree::{Block, CompRef, Decl, Kind, Program, Stmt};
 
-/// Whether every form of the program is built: what it declares, and the statements of all its texts.
+/// Whether every form of the program is built: what it declares, and all its statements.
 pub fn built(program: &Program) -> bool
     ensures { result ≡ is_built program.now }
 {
@@ -46,7 +46,9 @@ fn is_built_stmt(stmt: &Stmt) -> bool
     ensures { result ≡ is_built_stmt stmt.now }
 {
     match stmt {
-        Stmt::Set(..) | Stmt::Say(_) | Stmt::Spawn(..) | Stmt::Yield => true,
+        Stmt::Set(..) | Stmt::Add(..) | Stmt::Sub(..) | Stmt::Mul(..) => true,
+        Stmt::Put(..) | Stmt::Get(..) | Stmt::Say(_) | Stmt::Spawn(..) | Stmt::Yield => true,
+        Stmt::Raise(_) | Stmt::Break | Stmt::If { .. } | Stmt::Loop(_) | Stmt::Try { .. } => true,
         Stmt::Return(_, comp, _) | Stmt::Cancel(_, comp, _) | Stmt::Peek(_, _, comp) => {
             is_built_comp(*comp)
         }

@@ -5,6 +5,7 @@ ghost use Rattle.fiber_body.specs.Fits.{Fits};
 ghost use Rattle.fiber_body.specs.Shown.{carry_of};
 ghost use Rattle.fiber_poll.specs.UnderWay.{IsBefore, IsHandedBack, IsUp};
 
+use crate::spot::Spot;
 use crate::stmts::go_on;
 use fiber_body::{Body, Standing};
 use pic_base::Outcome;
@@ -16,10 +17,10 @@ pub(crate) fn yield_turn<P: Port<Body = Body>, R: ReadyLine>(
     port: &mut P,
     line: &mut R,
     body: Body,
-    place: usize,
+    spot: Spot,
 ) -> Turn<Body>
     requires up { IsUp (P.sight port.old) body }
-    requires before { IsBefore body place Stmt.Yield }
+    requires before { IsBefore body spot Stmt.Yield }
     ensures { Polled result carry_of Fits (P.sight port.old) (P.sight port.new) (carry_of body) (R.told line.old) (R.told line.new) }
 {
     let mut body = body;
@@ -29,7 +30,7 @@ pub(crate) fn yield_turn<P: Port<Body = Body>, R: ReadyLine>(
     let fiber = body.fiber();
     let steps = body.steps();
     // The port keeps the body as it stands behind the yield.
-    go_on(&mut body, place);
+    go_on(&mut body, spot);
     match port.lay(body, true) {
         Ok(()) => {
             line.add(fiber);
@@ -38,7 +39,10 @@ pub(crate) fn yield_turn<P: Port<Body = Body>, R: ReadyLine>(
         Err((body, fault)) => {
             let mut body = body;
             body.set_steps(steps);
-            body.set_standing(Standing::At(place));
+            body.set_standing(Standing::At {
+                block: spot.block,
+                place: spot.place,
+            });
             handed_back(body, fault)
         }
     }

@@ -5,7 +5,7 @@ ghost use Rattle.fiber_poll.specs.Laws.{port_later};
 ghost use Rattle.fiber_poll.specs.Polls.{IsPortOf};
 
 use crate::last::{end_turn, handed_back, yield_turn};
-use crate::next::Last;
+use crate::spot::Last;
 use crate::turn::run_on;
 use fiber_body::Body;
 use pic_machine::{Poller, Port, ReadyLine, Turn};
@@ -35,7 +35,7 @@ impl<P: Port<Body = Body>> Poller<P> for ScriptPoller {
     fn poll<R: ReadyLine>(&self, port: &mut P, line: &mut R, body: Body) -> Turn<Body> {
         let mut body = body;
         match run_on(self, port, line, &mut body) {
-            Ok(Last::Yield(place)) => yield_turn(port, line, body, place),
+            Ok(Last::Yield(spot)) => yield_turn(port, line, body, spot),
             Ok(Last::End(outcome)) => end_turn(port, body, outcome),
             Err(fault) => handed_back(body, fault),
         }

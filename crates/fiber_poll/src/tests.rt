@@ -16,9 +16,19 @@ fn is_built(alloc: Global, text: &[u8]) -> Result<bool, Fail>
 
 #[test]
 fn every_built_form(rt: HostRuntime) -> Result<(), Fail> {
-    let text =
-        b"picos 1\ncomp c\nfiber f\nsay r0\nyield\nend\nmain\nset r1 7\nreturn r2 c r1\ncancel r3 root 9\npeek r4 r5 c\nspawn f r1\nend\n";
-    assert!(rt; is_built(rt.alloc(), text)?);
+    let table: [&[u8]; 4] = [
+        // what makes entries
+        b"picos 1\ncomp c\nfiber f\nsay r0\nyield\nend\nmain\nreturn r2 c r1\ncancel r3 root 9\npeek r4 r5 c\nspawn f r1\nend\n",
+        // registers and storage
+        b"picos 1\nmain\nset r1 7\nadd r1 1\nsub r1 r2\nmul r1 2\nput 3 r1\nget r2 3\nend\n",
+        // blocks
+        b"picos 1\nmain\nloop\nif r1 eq 0\nbreak\nelse\nset r1 0\nend\nend\nend\n",
+        // raises
+        b"picos 1\nmain\ntry\nraise 2\ncatch r1\nsay r1\nend\nend\n",
+    ];
+    for text in table {
+        assert!(rt; is_built(rt.alloc(), text)?, "{:?}", text);
+    }
     Ok(())
 }
 
@@ -35,10 +45,10 @@ fn one_form_that_is_not_built(rt: HostRuntime) -> Result<(), Fail> {
         b"picos 1\ntrigger t\nmain\nend\n",
         b"picos 1\ncomp c\nmutex m\nmain\nend\n",
         // a statement, in main or in a fiber's text
-        b"picos 1\nmain\nsay 1\nraise 2\nend\n",
+        b"picos 1\nmain\nsay 1\nwords r1 2\nend\n",
         b"picos 1\nfiber f\ncheck\nend\nmain\nspawn f 1\nend\n",
         // a statement in a block
-        b"picos 1\nmain\nloop\nbreak\nend\nend\n",
+        b"picos 1\nmain\nloop\ncheck\nend\nend\n",
         // a promise register
         b"picos 1\nmain\npeek r1 r2 p0\nend\n",
     ];

@@ -1,14 +1,14 @@
 //! The numbers that statements compute with.
 ghost use Rattle.std.specs.Prelude.{◌≡◌, ◌≤◌, ◌<◌, ◌+◌, length, Some};
 ghost use Rattle.script_tree.specs.WellFormed.{IsValue};
-ghost use Rattle.fiber_body.specs.Meaning.{comp_number, outcome_number, state_number, value_of, won};
+ghost use Rattle.fiber_body.specs.Meaning.{comp_number, holds, outcome_number, state_number, value_of, won};
 ghost use Rattle.fiber_body.specs.Numbers.{IsDeclared};
 ghost use Rattle.fiber_body.specs.Shown.{context_at};
 
 use fiber_body::{Body, number_of};
 use pic_base::{CompNo, Outcome, Value};
 use pic_machine::CompleteReply;
-use script_tree::{CompRef, Operand, Program};
+use script_tree::{CompRef, Operand, Program, Test};
 
 /// The value of an operand.
 pub(crate) fn value_of(body: &Body, operand: Operand) -> Value
@@ -18,6 +18,20 @@ pub(crate) fn value_of(body: &Body, operand: Operand) -> Value
     match operand {
         Operand::Reg(register) => body.register(register),
         Operand::Num(value) => value,
+    }
+}
+
+/// Whether the comparison holds.
+pub(crate) fn holds(test: Test, left: Value, right: Value) -> bool
+    ensures { result ≡ holds test left right }
+{
+    match test {
+        Test::Eq => left == right,
+        Test::Ne => left != right,
+        Test::Lt => left < right,
+        Test::Le => left <= right,
+        Test::Gt => left > right,
+        Test::Ge => left >= right,
     }
 }
 

@@ -17,5 +17,5 @@ pub use files::{Files, ReadRefusal};
 pub use memory_files::MemFiles;
 pub use memory_sink::MemSink;
 pub use real_files::RealFiles;
-pub use real_sink::RealSink;
+pub use real_sink::{ROOM, RealSink};
 pub use sink::{Sink, SinkRefusal};

@@ -1,25 +1,97 @@
-ghost use Rattle.std.specs.Prelude.{◌≡◌, ◌<◌, ◌≤◌, length, IfOk, IsErrOf};
+ghost use Rattle.std.specs.Prelude.{◌≡◌, ◌<◌, ◌≤◌, ◌+◌, ◌++◌, [], length, take, Ok, IfOk, OnErr, OnOk, IsErrOf};
 ghost use Rattle.pic_io.specs.Counts.{next_count};
+ghost use Rattle.pic_io.specs.Ends.{IsEndOf};
 ghost use Rattle.pic_io.specs.Faults.{Rose};
+ghost use Rattle.pic_io.specs.declared.real_sink.TheConstants.{ROOM};
 
 use crate::sink::{Sink, SinkRefusal};
+use std::alloc::{AllocError, Global};
 use std::io;
+
+/// How many bytes a `RealSink` gathers at most before it writes them.
+pub const ROOM: usize = 65_536;
 
 /// The standard output of a runtime: the trusted edge. What it has taken is not told, since others
 /// may write there too.
+///
+/// Small pieces are gathered, and written together. Whoever has put the last piece calls `finish`:
+/// what is gathered then is written by nobody else.
 #[derive(Drop)]
 pub struct RealSink<R> {
     rt: R,
-    /// How many puts have failed. The count stands still at its type's end.
+    /// What was put and is not written yet.
+    pub gathered: Vec<u8>,
+    /// How many writes have failed. The count stands still at its type's end.
     pub failed: u64,
+    ghost within_room: { length gathered.items ≤ ROOM },
 }
 
 impl<R> RealSink<R> {
-    /// The runtime's standard output, before the first put.
-    pub fn new(rt: R) -> Self
-        ensures { result.failed ≡ 0 }
+    /// The runtime's standard output, before the first put. No memory is taken yet.
+    pub fn new(alloc: Global, rt: R) -> Self
+        ensures gathered { result.gathered.items ≡ [] }
+        ensures failed { result.failed ≡ 0 }
     {
-        RealSink { rt, failed: 0 }
+        RealSink {
+            rt,
+            gathered: Vec::new(alloc),
+            failed: 0,
+        }
+    }
+
+    /// How many bytes a write took, where it took any. A write that takes nothing is a fault, as is
+    /// one that was refused, unless it was for want of memory.
+    fn judged(&mut self, written: io::Result<usize>) -> Result<usize, SinkRefusal>
+        ensures count { IfOk result (λ n. written ≡ Ok n) }
+        ensures some { IfOk result (λ n. 0 < n) }
+        ensures steady { self.old.failed ≤ self.new.failed }
+        ensures rose { IsErrOf result SinkRefusal.Failed →
+            self.new.failed ≡ next_count self.old.failed }
+        ensures unrisen { (IsErrOf result SinkRefusal.Failed → ⊥) →
+            self.new.failed ≡ self.old.failed }
+        ensures kept { self.new.gathered ≡ self.old.gathered }
+    {
+        match written {
+            Ok(count) if count > 0 => Ok(count),
+            Err(error) if error.kind() == io::ErrorKind::OutOfMemory => Err(SinkRefusal::Memory),
+            _ => {
+                self.failed = self.failed.saturating_add(1);
+                Err(SinkRefusal::Failed)
+            }
+        }
+    }
+
+    /// Adds a piece to what was gathered. The first one takes the memory for all that follow.
+    fn gather(&mut self, piece: &[u8]) -> Result<(), AllocError>
+        requires { length self.old.gathered.items + length piece.now ≤ ROOM }
+        ensures ok { OnOk result (self.new.gathered.items ≡ self.old.gathered.items ++ piece.now) }
+        ensures err { OnErr result (self.new.gathered.items ≡ self.old.gathered.items) }
+        ensures failed { self.new.failed ≡ self.old.failed }
+    {
+        self.gathered.reserve_exact(ROOM - self.gathered.len())?;
+        self.gathered.extend_from_slice(piece)
+    }
+}
+
+impl<R: Print> RealSink<R> {
+    /// Writes what was gathered. A write that fails ends the call and counts as a fault, and then
+    /// what was not written is still gathered.
+    pub fn finish(&mut self) -> Result<(), SinkRefusal>
+        ensures written { OnOk result (self.new.gathered.items ≡ []) }
+        ensures left { IsEndOf self.new.gathered.items self.old.gathered.items }
+        ensures failed { IsErrOf result SinkRefusal.Failed → Rose self.old.failed self.new.failed }
+        ensures steady { self.old.failed ≤ self.new.failed }
+        ensures rose { IsErrOf result SinkRefusal.Failed →
+            self.new.failed ≡ next_count self.old.failed }
+        ensures unrisen { (IsErrOf result SinkRefusal.Failed → ⊥) →
+            self.new.failed ≡ self.old.failed }
+    {
+        'writes: while !self.gathered.is_empty() {
+            let written = self.rt.write_some(self.gathered.as_slice());
+            let count = self.judged(written)?;
+            self.gathered.drain(..count);
+        }
+        Ok(())
     }
 }
 
@@ -34,11 +106,29 @@ impl<R: Print> Sink for RealSink<R> {
         self.failed
     }
 
-    /// A write that takes nothing counts as a fault too.
+    /// A piece that fits in the room is gathered. Before any other one, what was gathered is
+    /// written; a piece that is longer than the whole room then goes to one write of its own. Where
+    /// the memory of the room is refused, so is the piece.
     fn put(&mut self, piece: &[u8]) -> Result<usize, SinkRefusal>
         requires { 0 < length piece.now }
         ensures some { IfOk result (λ n. 0 < n) }
         ensures within { IfOk result (λ n. n ≤ length piece.now) }
+
+        // For a piece that fits nothing is written, so no write fails.
+        ensures whole { length self.old.gathered.items + length piece.now ≤ ROOM →
+            IfOk result (λ n. n ≡ length piece.now) }
+        ensures gathered { length self.old.gathered.items + length piece.now ≤ ROOM →
+            OnOk result (self.new.gathered.items ≡ self.old.gathered.items ++ piece.now) }
+        ensures unwritten { length self.old.gathered.items + length piece.now ≤ ROOM →
+            OnErr result (self.new.gathered.items ≡ self.old.gathered.items) }
+        ensures unfailing { length self.old.gathered.items + length piece.now ≤ ROOM →
+            IsErrOf result SinkRefusal.Failed → ⊥ }
+
+        // What is gathered is always the end of what was put, in its order.
+        ensures behind { IfOk result (λ n. IsEndOf self.new.gathered.items
+            (self.old.gathered.items ++ take n piece.now)) }
+        ensures left { OnErr result (IsEndOf self.new.gathered.items self.old.gathered.items) }
+
         ensures failed { IsErrOf result SinkRefusal.Failed → Rose self.old.failed self.new.failed }
         ensures steady { self.old.failed ≤ self.new.failed }
         ensures rose { IsErrOf result SinkRefusal.Failed →
@@ -46,21 +136,27 @@ impl<R: Print> Sink for RealSink<R> {
         ensures unrisen { (IsErrOf result SinkRefusal.Failed → ⊥) →
             self.new.failed ≡ self.old.failed }
     {
-        match self.rt.write_some(piece) {
-            Ok(count) if count > 0 => Ok(count),
-            Err(error) if error.kind() == io::ErrorKind::OutOfMemory => Err(SinkRefusal::Memory),
-            _ => {
-                self.failed = self.failed.saturating_add(1);
-                Err(SinkRefusal::Failed)
-            }
+        if piece.len() > ROOM - self.gathered.len() {
+            self.finish()?;
         }
+        if piece.len() > ROOM {
+            let written = self.rt.write_some(piece);
+            return self.judged(written);
+        }
+        self.gather(piece)?;
+        Ok(piece.len())
     }
 }
 
 #[cfg(test)]
 mod tests {
     use super::*;
+    use std::cell::Cell;
     use std::fmt::Display;
+    use std::fs::{File, OpenOptions};
+    use std::io::{ErrorKind, Write};
+    use std::test::Fail;
+    use std::{env, fs, process};
 
     // A sink that takes nothing, and says no error.
     #[derive(Drop)]
@@ -84,18 +180,132 @@ mod tests {
         }
     }
 
+    // A file in place of standard output. A write takes at most so many bytes, and the write of one
+    // number, from 0, is interrupted.
+    #[derive(Drop)]
+    struct ToFile {
+        file: File,
+        most: usize,
+        interrupted: u32,
+        writes: Cell<u32>,
+    }
+
+    impl Print for ToFile {
+        fn print<D: Display + Drop>(&self, _value: D) -> io::Result<()> {
+            Ok(())
+        }
+
+        fn println<D: Display + Drop>(&self, _value: D) -> io::Result<()> {
+            Ok(())
+        }
+
+        fn write_all(&self, _bytes: &[u8]) -> io::Result<()> {
+            Ok(())
+        }
+
+        fn write_some(&self, bytes: &[u8]) -> io::Result<usize> {
+            let number = self.writes.get();
+            self.writes.set(number.saturating_add(1));
+            if number == self.interrupted {
+                return Err(io::Error::from(ErrorKind::Interrupted));
+            }
+            let mut file = &self.file;
+            file.write(&bytes[..self.most.min(bytes.len())])
+        }
+    }
+
     #[test]
     fn writes_to_the_output(rt: HostRuntime) {
-        let mut sink = RealSink::new(&rt);
+        let mut sink = RealSink::new(rt.alloc(), &rt);
         assert_eq!(rt; sink.put(b"a line\n"), Ok(7));
+        assert_eq!(rt; sink.finish(), Ok(()));
         assert_eq!(rt; sink.faults(), 0);
     }
 
     #[test]
-    fn counts_what_is_not_taken(rt: HostRuntime) {
-        let mut sink = RealSink::new(Stuck);
-        assert_eq!(rt; sink.put(b"a line\n"), Err(SinkRefusal::Failed));
-        assert_eq!(rt; sink.put(b"a line\n"), Err(SinkRefusal::Failed));
-        assert_eq!(rt; sink.faults(), 2);
+    fn counts_what_is_not_taken(rt: HostRuntime) -> Result<(), Fail> {
+        let alloc = rt.alloc();
+        let long = vec![in alloc; 7u8; ROOM + 1]?;
+        let mut sink = RealSink::new(alloc, Stuck);
+        assert_eq!(rt; sink.finish(), Ok(()));
+        assert_eq!(rt; sink.put(long.as_slice()), Err(SinkRefusal::Failed));
+        assert_eq!(rt; sink.put(b"a line\n"), Ok(7));
+        assert_eq!(rt; sink.finish(), Err(SinkRefusal::Failed));
+        assert_eq!(rt; sink.finish(), Err(SinkRefusal::Failed));
+        assert_eq!(rt; sink.put(long.as_slice()), Err(SinkRefusal::Failed));
+        assert_eq!(rt; sink.faults(), 4);
+        Ok(())
+    }
+
+    #[test]
+    fn fails_on_a_full_device(rt: HostRuntime) -> Result<(), Fail> {
+        let file = OpenOptions::new().write(true).open(&rt, "/dev/full")?;
+        let output = ToFile {
+            file,
+            most: usize::MAX,
+            interrupted: u32::MAX,
+            writes: Cell::new(0),
+        };
+        let mut sink = RealSink::new(rt.alloc(), output);
+        assert_eq!(rt; sink.put(b"a line\n"), Ok(7));
+        assert_eq!(rt; sink.faults(), 0);
+        assert_eq!(rt; sink.finish(), Err(SinkRefusal::Failed));
+        assert_eq!(rt; sink.faults(), 1);
+        Ok(())
+    }
+
+    // Puts so many lines. Answers all that was taken of them, and how many were refused.
+    fn lines_put<S: Sink>(
+        sink: &mut S,
+        alloc: Global,
+        count: u32,
+    ) -> Result<(Vec<u8>, u32), AllocError> {
+        let mut taken = Vec::new(alloc);
+        let mut refused = 0u32;
+        for number in 0..count {
+            let line = format!(in alloc; "say {number}\n")?;
+            let line = line.as_str().as_bytes();
+            if line.is_empty() {
+                continue;
+            }
+            match sink.put(line) {
+                Ok(count) => taken.extend_from_slice(&line[..count])?,
+                Err(_) => refused = refused.saturating_add(1),
+            }
+        }
+        Ok((taken, refused))
+    }
+
+    #[test]
+    fn writes_each_byte_once(rt: HostRuntime) -> Result<(), Fail> {
+        let alloc = rt.alloc();
+        let folder = env::temp_dir(&rt)?;
+        let folder = folder.as_str();
+        let id = process::id(rt.process());
+        let path = format!(in alloc; "{folder}/pic_io_sink_{id}.txt")?;
+        let name = path.as_str();
+        // The second part of what is gathered first is interrupted, and so is left gathered.
+        let output = ToFile {
+            file: File::create(&rt, name)?,
+            most: 10_000,
+            interrupted: 1,
+            writes: Cell::new(0),
+        };
+
+        let mut sink = RealSink::new(alloc, output);
+        let (mut wanted, refused) = lines_put(&mut sink, alloc, 20_000)?;
+        let long = vec![in alloc; 7u8; ROOM + 1]?;
+        assert_eq!(rt; sink.put(long.as_slice()), Ok(10_000));
+        let front = vec![in alloc; 7u8; 10_000]?;
+        wanted.extend_from_slice(front.as_slice())?;
+        assert_eq!(rt; sink.put(b"end\n"), Ok(4));
+        wanted.extend_from_slice(b"end\n")?;
+        assert_eq!(rt; sink.finish(), Ok(()));
+        let written = fs::read(&rt, name);
+        fs::remove_file(&rt, name)?;
+        assert_eq!(rt; written?.as_slice(), wanted.as_slice());
+        assert_eq!(rt; refused, 1);
+        assert_eq!(rt; sink.faults(), 1);
+        Ok(())
     }
 }

@@ -2,6 +2,7 @@ ghost use Rattle.std.specs.Prelude.{◌≡◌, ◌<◌, ◌≤◌, ℕ, List, Op
 ghost use Rattle.std.specs.Io.KnownBytes.{Appends, Keeps};
 ghost use Rattle.pic_io.specs.Faults.{Rose};
 
+use std::alloc::AllocError;
 use std::error::Error;
 use std::fmt;
 
@@ -29,6 +30,17 @@ impl fmt::Display for SinkRefusal {
 }
 
 impl Error for SinkRefusal {}
+
+impl From<AllocError> for SinkRefusal {
+    ghost use Rattle.std.specs.Prelude.{◌≡◌};
+    ghost use Rattle.pic_io.specs.declared.sink.SinkRefusal.TheVariants.{Memory};
+
+    ghost from_gives = { λ _ e. e ≡ Memory };
+
+    fn from(_error: AllocError) -> SinkRefusal {
+        SinkRefusal::Memory
+    }
+}
 
 /// Where bytes go.
 ///

@@ -8,6 +8,8 @@ pub mod Homes
 pub mod Turns
 pub mod Comps
 pub mod Ends
+pub mod Fates
+pub mod Completions
 pub mod Readiness
 pub mod Turnings
 pub mod Polls

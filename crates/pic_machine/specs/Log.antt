@@ -25,6 +25,10 @@ is_visible h = not (is_turn h.entry.call)
 abbrev pub visible : List Happened → List Entry
 visible hs = map (λ h. h.entry) (filter is_visible hs)
 
+-- the entries of all that happened, without the births
+abbrev pub entries : List Happened → List Entry
+entries hs = map (λ h. h.entry) hs
+
 -- none of the entries is fiber f's
 abbrev pub Others : ℕ → List Happened → Type 0
 Others f hs = AllByRecursion (λ h. h.entry.fiber ≢ f) hs

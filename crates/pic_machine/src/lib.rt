@@ -3,8 +3,9 @@
 //!
 //! `specs/` defines the machine, over lists and whole numbers, by cases on the call: `State`
 //! (a world), `Duty` (what fibers owe), `Step` (which calls are allowed, their replies and what they
-//! change), `History` (legal histories and births), `Log` (what one fiber did), `Final` (nothing is
-//! left to do) and `Order` (the turns of the FIFO order). `World` is the machine itself: its calls are
+//! change), `History` (legal histories and births), `Log` (what one fiber did), `Completing` (how
+//! computations were completed), `Final` (nothing is left to do) and `Order` (the turns of the FIFO
+//! order). `World` is the machine itself: its calls are
 //! exactly the definition's start and step.
 //!
 //! A fiber's body (`Carried`) is moved between a port (`Port`), which has the bodies and makes their
@@ -18,7 +19,8 @@
 //! there is nothing of a fiber that isn't made (`Fresh`), that nobody owes anything yet (`Quiet`), how a
 //! port's call keeps the contract (`Onward`, `Homes`), how turns and the answers of polls are put
 //! together and stand in order (`Turns`, `Polls`), that the ready list has exactly the live fibers
-//! (`Readiness`), and how many turns there can be (`Turnings`). It stands on `pic_base`.
+//! (`Readiness`), how many turns there can be (`Turnings`), and what a log tells of how its fiber and
+//! the computations ended (`Fates`, `Completions`). It stands on `pic_base`.
 #![tactic(auto)]
 
 mod birth;
@@ -36,7 +38,7 @@ pub use closed::Closed;
 pub use entry::{Call, CompleteReply, Entry, Happened, Reply};
 pub use poller::{Poller, Turn};
 pub use port::{ClaimRefusal, Idle, Port, PortFault, ReadyLine};
-pub use state::{CompState, FiberState};
+pub use state::{CompState, Completion, FiberState};
 pub use world::{Start, World};
 
 #[cfg(test)]

@@ -1,4 +1,4 @@
-use pic_base::Outcome;
+use pic_base::{FiberNo, Outcome};
 
 /// A computation: running, or completed once and for all (Picos: `Computation`).
 #[derive(Clone, Copy, Debug, PartialEq, Eq)]
@@ -12,4 +12,11 @@ pub enum CompState {
 pub enum FiberState {
     Live,
     Ended(Outcome),
+}
+
+/// How a computation was completed: by which fiber, and with which outcome.
+#[derive(Clone, Copy, Debug, PartialEq, Eq)]
+pub struct Completion {
+    pub fiber: FiberNo,
+    pub outcome: Outcome,
 }

@@ -1,6 +1,6 @@
 -- From what a call had to write, and how its writing ended, to each promise of the top call.
-use Rattle.std.proofs.Common.{◌≡◌, ◌≢◌, ℕ, ◌<◌, ◌≤◌, ◌⊎◌, inl, inr, Option, Some, None, List, [], length, Result, Ok, Err, codes, refl, sym, ap, subst, ◌∙◌, arith}
-use Rattle.std.specs.List.{flat_map}
+use Rattle.std.proofs.Common.{◌≡◌, ◌≢◌, ℕ, Bool, ◌<◌, ◌≤◌, ◌⊎◌, inl, inr, Option, Some, None, List, [], length, Result, Ok, Err, codes, refl, sym, ap, subst, ◌∙◌, arith}
+use Rattle.std.specs.Arc.{arc_value}
 use Rattle.std.proofs.lemmas.Bool.{false≢true}
 use Rattle.std.specs.Io.KnownBytes.{Appends}
 use Rattle.script_tree.specs.declared.refusal.Refused.{Refused as Refusal}
@@ -15,31 +15,30 @@ use Rattle.pic_machine.specs.State.{State}
 use Rattle.pic_machine.specs.History.{world}
 use Rattle.pic_run.specs.declared.answer.Answer.{Answer}
 use Rattle.pic_run.specs.declared.report.Report.{Report}
-use Rattle.pic_run.specs.declared.output.WriteRefusal.{WriteRefusal}
-use Rattle.pic_run.specs.declared.output.WriteRefusal.TheVariants as refusal
+use Rattle.pic_report.specs.declared.refusal.ReportRefusal.{ReportRefusal}
+use Rattle.pic_report.specs.declared.refusal.ReportRefusal.TheVariants as refusal
 use Rattle.pic_run.specs.declared.status.Status.{Status}
 use Rattle.pic_run.specs.declared.status.Status.TheVariants.{Done, Raised, Usage, Refused, ReadFault, WriteFault, OutOfMemory, TooLarge}
 use Rattle.pic_run.specs.declared.limits.TheConstants.{MOST_BYTES}
 use Rattle.script_tree.specs.Tree.{Tree}
 use Rattle.pic_run.specs.Run.{origin}
 use Rattle.pic_run.specs.Over.{IsReportOf}
-use Rattle.pic_run.specs.Report.{report}
+use Rattle.pic_report.specs.View.{view_text}
 use Rattle.pic_run.specs.Request.{Command, run, check, show, script_of, request}
 use Rattle.pic_run.specs.Refusal.{Accepts, IsRefused, no_script, not_served, IsServed, refusal_text}
 use Rattle.fiber_poll.specs.Built.{is_built}
 use Rattle.pic_run.specs.Status.{IsStatusOf}
-use Rattle.pic_run.specs.Output.{AppendsFront, Puts}
+use Rattle.pic_report.specs.Output.{AppendsFront, Puts}
 use Rattle.pic_run.specs.Due.{Asked, Answers, refused, ran, checked, shown, Due, usage, read_fault, too_large, answer, Ends, whole, fault, memory, Serves, wrote, gave_up}
 use Rattle.pic_run.specs.Answer.{Tells, answer_text, answer_status, ended_status}
 use Rattle.pic_run.specs.Headline.{AsksRun, CheckedBy, EndsWell, Headline, RefusedBy, ReadFaultBy, ShownBy, TooLargeBy, TookNoMore}
 
 -- ---- the answer of a script's bytes
 
-pub answers_ran : (bytes script input : List ℕ) (tree : Tree) (history : List Happened) (made : Report) → grammar bytes ≡ Ok tree → Accepts (run script input) tree → IsReportOf tree history made
-    → Answers bytes (run script input) (flat_map (λ line. line) made.lines) made.status
-answers_ran bytes script input tree history made reads accepts is =
-    let same : flat_map (λ line. line) made.lines ≡ report tree history = ap (λ (lines : List (List ℕ)). flat_map (λ line. line) lines) is.lines in
-    subst (λ (text : List ℕ). Answers bytes (run script input) text made.status) (sym same) (ran tree history reads accepts is.run is.status)
+pub answers_ran : (bytes script input : List ℕ) (traced logged : Bool) (tree : Tree) (history : List Happened) (made : Report) → grammar bytes ≡ Ok tree → Accepts (run script input traced logged) tree → IsReportOf tree history traced logged made
+    → Answers bytes (run script input traced logged) (view_text (arc_value made.program) made.view) made.status
+answers_ran bytes script input traced logged tree history made reads accepts is =
+    subst (λ (text : List ℕ). Answers bytes (run script input traced logged) text made.status) (sym is.text) (ran tree history reads accepts is.run is.status)
 
 pub answers_told : (bytes : List ℕ) (command : Command) (r : Refusal) (made : Answer) → IsRefused bytes command r → Tells made r → Answers bytes command (answer_text made) (answer_status made)
 answers_told bytes command r made cause tells =
@@ -102,11 +101,11 @@ answers_refused (shown tree reads again) none = absurd (none (record { tree = tr
 
 -- ---- how the writing ended
 
-pub serves_put : (asked : Asked) (before now : Option (List ℕ)) (faults faults_now : ℕ) (text : List ℕ) (good : Status) (r : Result (Unit {0}) WriteRefusal) → Due asked text good → Puts before now faults faults_now text r
+pub serves_put : (asked : Asked) (before now : Option (List ℕ)) (faults faults_now : ℕ) (text : List ℕ) (good : Status) (r : Result (Unit {0}) ReportRefusal) → Due asked text good → Puts before now faults faults_now text r
     → Serves asked before now faults faults_now (ended_status r good)
-serves_put asked before now faults faults_now text good (Ok u) due puts = wrote due (whole puts.0)
-serves_put asked before now faults faults_now text good (Err refusal.WriteFault) due puts = wrote due (fault puts.0 puts.1)
-serves_put asked before now faults faults_now text good (Err refusal.Memory) due puts = wrote due (memory puts.0)
+serves_put asked before now faults faults_now text good (Ok u) due puts = wrote due (whole puts.whole)
+serves_put asked before now faults faults_now text good (Err refusal.WriteFault) due puts = wrote due (fault puts.refused (puts.fault refl))
+serves_put asked before now faults faults_now text good (Err refusal.Memory) due puts = wrote due (memory puts.refused)
 
 -- ---- the promises
 
@@ -144,7 +143,7 @@ module _ (asked : Asked) (before now : Option (List ℕ)) (faults faults_now : �
   answers_for : {a b : Command} {bytes text : List ℕ} {status : Status} → request asked.words ≡ Some a → request asked.words ≡ Some b → Answers bytes a text status → Answers bytes b text status
   answers_for {bytes = bytes} {text} {status} p q answers = subst (λ (c : Command). Answers bytes c text status) (same_command p q) answers
 
-  headline_of : {bytes text script input : List ℕ} {status : Status} → Answers bytes (run script input) text status → Gives (asked.held script) bytes → Appends before now text → (status ≡ Done) ⊎ (status ≡ Raised) → Headline (asked.held script) before now status
+  headline_of : {bytes text script input : List ℕ} {traced logged : Bool} {status : Status} → Answers bytes (run script input traced logged) text status → Gives (asked.held script) bytes → Appends before now text → (status ≡ Done) ⊎ (status ≡ Raised) → Headline (asked.held script) traced logged before now status
   headline_of (refused r cause) given appends is = ran_other is (λ d. cc) (λ d. cc)
   headline_of {bytes} (ran tree history reads accepts is_run ended) given appends is = record {
     bytes = bytes;
@@ -176,13 +175,13 @@ module _ (asked : Asked) (before now : Option (List ℕ)) (faults faults_now : �
   refused_of (checked tree reads) asks given appends is = absurd cc
   refused_of (shown tree reads again) asks given appends is = absurd cc
 
-  due_headline : {text : List ℕ} {status : Status} → Due asked text status → Appends before now text → (status ≡ Done) ⊎ (status ≡ Raised) → (script input : List ℕ) → request asked.words ≡ Some (run script input) → Headline (asked.held script) before now status
-  due_headline (usage none) appends is script input asks = ran_other is (λ d. cc) (λ d. cc)
-  due_headline (read_fault asks' rose named) appends is script input asks = ran_other is (λ d. cc) (λ d. cc)
-  due_headline (too_large asks' longer) appends is script input asks = ran_other is (λ d. cc) (λ d. cc)
-  due_headline (answer {bytes = bytes} asks' given within answers) appends is script input asks = headline_of (answers_for asks' asks answers) (given_for bytes asks' asks given) appends is
+  due_headline : {text : List ℕ} {status : Status} → Due asked text status → Appends before now text → (status ≡ Done) ⊎ (status ≡ Raised) → (script input : List ℕ) (traced logged : Bool) → request asked.words ≡ Some (run script input traced logged) → Headline (asked.held script) traced logged before now status
+  due_headline (usage none) appends is script input traced logged asks = ran_other is (λ d. cc) (λ d. cc)
+  due_headline (read_fault asks' rose named) appends is script input traced logged asks = ran_other is (λ d. cc) (λ d. cc)
+  due_headline (too_large asks' longer) appends is script input traced logged asks = ran_other is (λ d. cc) (λ d. cc)
+  due_headline (answer {bytes = bytes} asks' given within answers) appends is script input traced logged asks = headline_of (answers_for asks' asks answers) (given_for bytes asks' asks given) appends is
 
-  pub told_headline : {status : Status} → Told status → (status ≡ Done) ⊎ (status ≡ Raised) → (script input : List ℕ) → request asked.words ≡ Some (run script input) → Headline (asked.held script) before now status
+  pub told_headline : {status : Status} → Told status → (status ≡ Done) ⊎ (status ≡ Raised) → (script input : List ℕ) (traced logged : Bool) → request asked.words ≡ Some (run script input traced logged) → Headline (asked.held script) traced logged before now status
   told_headline (told_whole due appends) is = due_headline due appends is
   told_headline (told_fault due front rose) is = ran_other is (λ d. cc) (λ d. cc)
   told_headline (told_memory due front) is = ran_other is (λ d. cc) (λ d. cc)
@@ -190,7 +189,7 @@ module _ (asked : Asked) (before now : Option (List ℕ)) (faults faults_now : �
 
   raised_of : {bytes text : List ℕ} {command : Command} {status : Status} → Answers bytes command text status → request asked.words ≡ Some command → status ≡ Raised → AsksRun asked.words
   raised_of (refused r cause) asks is = absurd cc
-  raised_of (ran {script} {input} tree history reads accepts is_run ended) asks is = record { script = script; input = input; asks = asks }
+  raised_of (ran {script} {input} {traced} {logged} tree history reads accepts is_run ended) asks is = record { script = script; input = input; traced = traced; logged = logged; asks = asks }
   raised_of (checked tree reads) asks is = absurd cc
   raised_of (shown tree reads again) asks is = absurd cc
 

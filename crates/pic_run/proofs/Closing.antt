@@ -1,5 +1,5 @@
 -- From what is left of the port, once a run is over, to what is told of the run.
-use Rattle.std.proofs.Common.{◌≡◌, ◌≢◌, ℕ, zero, suc, ◌+◌, ◌<◌, ◌≤◌, ◌⊎◌, inl, inr, Option, Some, None, List, [], ◌∷◌, ◌++◌, length, slice_get, get_or, codes, refl, sym, ap, subst, ◌∙◌, arith}
+use Rattle.std.proofs.Common.{◌≡◌, ◌≢◌, ℕ, zero, suc, ◌+◌, ◌<◌, ◌≤◌, ◌⊎◌, inl, inr, Bool, Option, Some, None, List, [], ◌∷◌, length, slice_get, get_or, refl, sym, ap, subst, ◌∙◌, arith}
 use Rattle.std.specs.Prelude.{All}
 use Rattle.std.proofs.lemmas.Option.{slice_get_cases}
 use Rattle.pic_base.specs.declared.outcome.Outcome.TheVariants.{Returned, Cancelled}
@@ -10,7 +10,7 @@ use Rattle.pic_machine.specs.declared.state.FiberState.{FiberState}
 use Rattle.pic_machine.specs.declared.state.FiberState.TheVariants.{Live, Ended}
 use Rattle.pic_machine.specs.State.{State}
 use Rattle.pic_machine.specs.Final.{IsFinal}
-use Rattle.pic_machine.specs.History.{Origin, IsLegal, birth_in, origin_of, world}
+use Rattle.pic_machine.specs.History.{Origin, IsLegal, birth_in, world}
 use Rattle.pic_machine.specs.Log.{log}
 use Rattle.pic_machine.specs.Home.{IsHome}
 use Rattle.pic_machine.proofs.Fresh.{birth_of_made, fibers_grow}
@@ -22,8 +22,14 @@ use Rattle.fiber_body.specs.Shown.{Shown as Body, carry_of}
 use Rattle.fiber_body.specs.Fits.{Fits, MayBeOf}
 use Rattle.pic_run.specs.declared.report.Report.{Report}
 use Rattle.pic_run.specs.Run.{IsRunOf, origin}
-use Rattle.pic_run.specs.Over.{AreBodies, IsOver, IsReportOf}
-use Rattle.pic_run.specs.Report.{comps_lines, declared_names, fibers_lines, run_line}
+use Rattle.pic_run.specs.Over.{IsOver, IsReportOf}
+use Rattle.pic_report.specs.declared.view.FiberView.{FiberView}
+use Rattle.pic_report.specs.Report.{report}
+use Rattle.pic_report.specs.View.{IsFiberView, IsLeftOf, IsViewOf, main_state, view_text}
+use Rattle.pic_run.specs.declared.limits.TheConstants.{LIMITS}
+use Rattle.fiber_body.specs.Starts.{start_of}
+use Rattle.std.specs.Arc.{arc_value}
+use Rattle.pic_machine.specs.declared.world.Start.{Start}
 use Rattle.pic_run.specs.Status.{IsStatusOf, status_of}
 
 -- ---- the status
@@ -41,25 +47,26 @@ main_made script hs = fibers_grow (origin script).world hs
 status_is : (script : Tree) (hs : List Happened) → IsFinal (world (origin script) hs) → IsStatusOf (world (origin script) hs) (status_of (slice_get (world (origin script) hs).fibers 0))
 status_is script hs final = status_at (world (origin script) hs) (world (origin script) hs).fibers refl final.ended (main_made script hs)
 
+-- main stands as its view says
+main_seen : {start : Start} {hs : List Happened} (views : List FiberView) (states : List FiberState) → length views ≡ length states
+    → ((place : ℕ) (state : FiberState) (seen : FiberView) → slice_get states place ≡ Some state → slice_get views place ≡ Some seen → IsFiberView start hs (place + 1) state seen) → main_state views ≡ slice_get states 0
+main_seen [] [] count are = refl
+main_seen [] (state ∷ states) count are = absurd (omega (arith, count))
+main_seen (view ∷ views) [] count are = absurd (omega (arith, count))
+main_seen (view ∷ views) (state ∷ states) count are = ap Some (are 0 state view refl refl).state_is
+
 -- ---- the run
 
 module _ (script : Tree) (port : Port Body) (closed : Closed Body) (over : IsOver script port) (left : IsLeft carry_of Fits (sight_of carry_of port) closed) where
   not_clock : (place : ℕ) → place + 1 ≢ 0
   not_clock place = λ is. absurd (omega (arith, is))
 
-  -- each body has what its fiber did and was made with
-  pub bodies_left : AreBodies script port.front closed.bodies.items
-  bodies_left = λ place body is. let home = left.home place body is in record {
-    noted = home.fitting.noted;
-    birth = subst (λ (o : Origin). birth_in o port.front (place + 1) ≡ Some body.birth) over.begun (home.birth (not_clock place));
-  }
-
   follows_at : (place : ℕ) (body : Body) (birth : Birth) → slice_get closed.bodies.items place ≡ Some body → birth_in (origin script) port.front (place + 1) ≡ Some birth
       → FollowsText script (place + 1) birth (log port.front (place + 1))
   follows_at place body birth is made =
       let home : IsHome carry_of Fits (sight_of carry_of port) (place + 1) body = left.home place body is in
       let mine : MayBeOf body.number (place + 1) = subst (λ (n : Option ℕ). MayBeOf n (place + 1)) (sym home.number) (refl, not_clock place) in
-      let both : Some body.birth ≡ Some birth = sym (bodies_left place body is).birth ∙ made in
+      let both : Some body.birth ≡ Some birth = sym (subst (λ (o : Origin). birth_in o port.front (place + 1) ≡ Some body.birth) over.begun (home.birth (not_clock place))) ∙ made in
       let same : body.birth ≡ birth = cc in
       subst (λ (b : Birth). FollowsText script (place + 1) b (log port.front (place + 1))) same
       (home.fitting.follows script (place + 1) (home.share (not_clock place) ∙ over.share) mine)
@@ -90,20 +97,21 @@ module _ (script : Tree) (port : Port Body) (closed : Closed Body) (over : IsOve
     ordered = over.ordered;
   }
 
-  pub count_left : (fibers : List FiberState) → fibers ≡ (world (origin_of port.start) port.front).fibers → length closed.bodies.items ≡ length fibers
-  count_left fibers is = left.count ∙ ap length (sym is)
+  -- what the port leaves is left of a run from the script's start
+  pub left_of_run : IsLeftOf (start_of script LIMITS) port.front closed
+  left_of_run = record {
+    port = sight_of carry_of port;
+    origin = over.begun;
+    front = refl;
+    left = left;
+    final = run_left.final;
+  }
 
-  -- the report whose parts are these
-  pub report_left : (fibers : List FiberState) (comps : List (List ℕ)) (made : Report) → fibers ≡ (world (origin_of port.start) port.front).fibers
-      → comps ≡ comps_lines (declared_names script) port.front 0 (world (origin_of port.start) port.front).comps
-      → ((history : List Happened) → AreBodies script history closed.bodies.items → made.lines ≡ (codes "picos report 1\n" ∷ []) ++ (fibers_lines script history 1 fibers ++ (comps ++ (codes "clock 0\n" ∷ (run_line (slice_get fibers 0) ∷ [])))))
-      → made.status ≡ status_of (slice_get fibers 0) → IsReportOf script port.front made
-  report_left fibers comps made fibers_are comps_are lines_are status =
-      let here : (λ (o : Origin). world o port.front) (origin_of port.start) ≡ world (origin script) port.front = ap (λ (o : Origin). world o port.front) over.begun in
-      let final : IsFinal (world (origin script) port.front) = subst (λ (o : Origin). IsFinal (world o port.front)) over.begun over.final in
-      let states : fibers ≡ (world (origin script) port.front).fibers = fibers_are ∙ ap (λ (w : State). w.fibers) here in
-      record {
-        run = run_left;
-        lines = lines_are port.front bodies_left ∙ rw (states, comps_are, here) refl;
-        status = subst (IsStatusOf (world (origin script) port.front)) (sym (status ∙ ap (λ (fs : List FiberState). status_of (slice_get fs 0)) states)) (status_is script port.front final);
-      }
+  -- the report of a view of that
+  pub report_left : (traced logged : Bool) (made : Report) → arc_value made.program ≡ script → IsViewOf (start_of script LIMITS) port.front traced logged made.view
+      → view_text script made.view ≡ report script (start_of script LIMITS) port.front traced logged → made.status ≡ status_of (main_state made.view.fibers.items) → IsReportOf script port.front traced logged made
+  report_left traced logged made program view text status = record {
+    run = run_left;
+    text = ap (λ (t : Tree). view_text t made.view) program ∙ text;
+    status = subst (IsStatusOf (world (origin script) port.front)) (sym (status ∙ ap status_of (main_seen made.view.fibers.items (world (origin script) port.front).fibers view.count view.fiber))) (status_is script port.front run_left.final);
+  }

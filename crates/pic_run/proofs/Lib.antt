@@ -1,5 +1,4 @@
 pub mod Opening
 pub mod Closing
-pub mod Reports
-pub mod Writing
+pub mod Words
 pub mod Calls

@@ -1,5 +1,5 @@
 -- What a run begins with: the start, the bodies of main and of the clock, and the port.
-use Rattle.std.proofs.Common.{◌≡◌, ℕ, ◌+◌, ◌≤◌, true, Option, [], length, refl, sym, ap, subst, ◌∙◌, arith}
+use Rattle.std.proofs.Common.{◌≡◌, ◌+◌, ◌≤◌, true, Option, length, refl, sym, ap, subst, ◌∙◌, arith}
 use Rattle.std.proofs.lemmas.List.{length-replicate}
 use Rattle.pic_machine.specs.declared.birth.Birth.{Birth}
 use Rattle.pic_machine.specs.declared.state.CompState.TheVariants.{Running}
@@ -7,10 +7,9 @@ use Rattle.pic_machine.specs.declared.world.Start.{Start}
 use Rattle.pic_machine.specs.State.{CanStart, world_at}
 use Rattle.port_plain.specs.Shown.{Shown as Port, IsMain, IsClock, sight_of}
 use Rattle.script_tree.specs.Tree.{Tree}
-use Rattle.fiber_body.specs.Follows.{context_of, under_way}
-use Rattle.fiber_body.specs.Meaning.{Context, Runs, waits}
-use Rattle.fiber_body.specs.Shown.{Shown as Body, IsNew, carry_of, context_at}
-use Rattle.fiber_body.specs.Fits.{Fits, Leads, before_end, stmts_of_body}
+use Rattle.fiber_body.specs.Shown.{Shown as Body, carry_of}
+use Rattle.fiber_body.specs.New.{IsNew}
+use Rattle.fiber_body.specs.Fits.{Fits}
 use Rattle.fiber_body.specs.Starts.{start_of}
 use Rattle.fiber_poll.specs.Built.{is_built}
 use Rattle.fiber_poll.specs.Polls.{IsPortOf}
@@ -26,27 +25,13 @@ can_start script start is few =
 
 -- ---- bodies
 
--- nothing has happened to a new body, so it stands before its text
+-- nothing has happened to a new body
 module _ (body : Body) (program : Option Tree) (birth : Birth) (new : IsNew body program birth) where
-  at_first : context_at body ≡ context_of body.birth
-  at_first = rw (new.registers, new.steps, new.birth_is) refl
-
-  leads_first : (f : ℕ) → Leads body f [] body.standing
-  leads_first f = subst (Leads body f []) (sym new.standing)
-      (λ rest x d runs. subst (λ (c : Context). Runs f (stmts_of_body body) c rest x d) at_first runs)
-
-  new_fits : Fits body []
-  new_fits = record {
-    noted = new.noted;
-    follows = λ script f is mine. under_way waits;
-    stands = λ f mine. before_end (leads_first f);
-  }
-
   pub new_clock : IsClock carry_of Fits body
-  new_clock = record { unnumbered = new.number; owes = refl; fitting = new_fits }
+  new_clock = record { unnumbered = new.number; owes = refl; fitting = new.fits }
 
   pub new_main : (start : Start) → birth ≡ record { text = start.text; value = 0; current = 0 } → IsMain carry_of Fits start body
-  new_main start is = record { unnumbered = new.number; birth = new.birth_is ∙ is; owes = refl; fitting = new_fits }
+  new_main start is = record { unnumbered = new.number; birth = new.birth_is ∙ is; owes = refl; fitting = new.fits }
 
 -- ---- the port
 

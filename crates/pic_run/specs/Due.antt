@@ -1,5 +1,5 @@
 -- Which text a call has to write, and how the writing of it ended.
-use Rattle.std.specs.Prelude.{◌≡◌, ℕ, ◌≤◌, Option, Some, None, Ok, List, [], length, codes}
+use Rattle.std.specs.Prelude.{◌≡◌, ℕ, Bool, ◌≤◌, Option, Some, None, Ok, List, [], length, codes}
 use Rattle.std.specs.Io.KnownBytes.{Appends}
 use Rattle.pic_io.specs.Faults.{Rose}
 use Rattle.pic_io.specs.Held.{Held, Gives, IsLongerThan}
@@ -7,9 +7,10 @@ use Rattle.pic_machine.specs.declared.entry.Happened.{Happened}
 use Rattle.pic_machine.specs.History.{world}
 use Rattle.pic_run.specs.declared.status.Status.{Status}
 use Rattle.pic_run.specs.declared.status.Status.TheVariants.{Done, Usage, Refused, ReadFault, WriteFault, OutOfMemory, TooLarge}
-use Rattle.pic_run.specs.declared.limits.TheConstants.{MOST_BYTES}
+use Rattle.pic_run.specs.declared.limits.TheConstants.{LIMITS, MOST_BYTES}
+use Rattle.fiber_body.specs.Starts.{start_of}
 use Rattle.pic_run.specs.Run.{IsRunOf, origin}
-use Rattle.pic_run.specs.Report.{report}
+use Rattle.pic_report.specs.Report.{report}
 use Rattle.pic_run.specs.Request.{Command, run, check, show, script_of, request}
 use Rattle.pic_run.specs.Refusal.{Accepts, IsRefused, refusal_text}
 use Rattle.script_tree.specs.declared.refusal.Refused.{Refused as Refusal}
@@ -17,7 +18,7 @@ use Rattle.script_tree.specs.Tree.{Tree}
 use Rattle.script_tree.specs.Grammar.{grammar}
 use Rattle.script_tree.specs.Canon.{canon}
 use Rattle.pic_run.specs.Status.{IsStatusOf}
-use Rattle.pic_run.specs.Output.{AppendsFront}
+use Rattle.pic_report.specs.Output.{AppendsFront}
 
 -- what a call is given, and what its files told by its end: the words, what each name holds, the count
 -- of faults of the files before and after the call, and the name that the last failed read was given
@@ -43,10 +44,10 @@ asked_of words held faults faults_now failed = record {
 pub data Answers (bytes : List ℕ) : Command → List ℕ → Status → Type 0 where
   refused : {command : Command} (r : Refusal) → IsRefused bytes command r
       → Answers bytes command (refusal_text r) Refused
-  ran : {script input : List ℕ} {status : Status} (tree : Tree) (history : List Happened)
-      → grammar bytes ≡ Ok tree → Accepts (run script input) tree → IsRunOf tree history
+  ran : {script input : List ℕ} {traced logged : Bool} {status : Status} (tree : Tree) (history : List Happened)
+      → grammar bytes ≡ Ok tree → Accepts (run script input traced logged) tree → IsRunOf tree history
       → IsStatusOf (world (origin tree) history) status
-      → Answers bytes (run script input) (report tree history) status
+      → Answers bytes (run script input traced logged) (report tree (start_of tree LIMITS) history traced logged) status
   checked : {script : List ℕ} (tree : Tree) → grammar bytes ≡ Ok tree
       → Answers bytes (check script) (codes "ok\n") Done
   shown : {script : List ℕ} (tree : Tree) → grammar bytes ≡ Ok tree → grammar (canon tree) ≡ Ok tree

@@ -1,5 +1,5 @@
 -- The headline: what a call that answers Done or Raised says of the script, the history and the report.
-use Rattle.std.specs.Prelude.{◌≡◌, ℕ, IsTrue, Option, Some, Ok, List, ◌⊎◌, [], codes}
+use Rattle.std.specs.Prelude.{◌≡◌, ℕ, Bool, IsTrue, Option, Some, Ok, List, ◌⊎◌, [], codes}
 use Rattle.std.specs.Io.KnownBytes.{Appends}
 use Rattle.pic_io.specs.Faults.{Rose}
 use Rattle.pic_io.specs.Held.{Held, Gives, IsLongerThan}
@@ -9,12 +9,13 @@ use Rattle.pic_machine.specs.History.{IsLegal, birth_in, world}
 use Rattle.pic_machine.specs.Log.{log}
 use Rattle.pic_machine.specs.Final.{IsFinal}
 use Rattle.pic_machine.specs.Order.{IsInFifoOrder}
-use Rattle.pic_run.specs.declared.limits.TheConstants.{MOST_BYTES}
+use Rattle.pic_run.specs.declared.limits.TheConstants.{LIMITS, MOST_BYTES}
 use Rattle.pic_run.specs.declared.status.Status.{Status}
 use Rattle.fiber_body.specs.Follows.{FollowsText}
+use Rattle.fiber_body.specs.Starts.{start_of}
 use Rattle.fiber_poll.specs.Built.{is_built}
 use Rattle.pic_run.specs.Run.{origin}
-use Rattle.pic_run.specs.Report.{report}
+use Rattle.pic_report.specs.Report.{report}
 use Rattle.pic_run.specs.declared.status.Status.TheVariants.{Done, Raised}
 use Rattle.pic_run.specs.Request.{Command, run, check, show, script_of, request}
 use Rattle.pic_run.specs.Refusal.{IsRefused, refusal_text}
@@ -23,11 +24,11 @@ use Rattle.script_tree.specs.Tree.{Tree}
 use Rattle.script_tree.specs.Grammar.{grammar}
 use Rattle.script_tree.specs.Canon.{canon}
 use Rattle.pic_run.specs.Status.{IsStatusOf}
-use Rattle.pic_run.specs.Output.{AppendsFront}
+use Rattle.pic_report.specs.Output.{AppendsFront}
 use Rattle.pic_run.specs.Due.{Asked, Due}
 
 -- The bytes of the script's file are a script that a run serves, and there is one history such that:
-pub record Headline (held : Held) (before now : Option (List ℕ)) (status : Status) : Type 0 where
+pub record Headline (held : Held) (traced logged : Bool) (before now : Option (List ℕ)) (status : Status) : Type 0 where
   pub bytes : List ℕ
   pub given : Gives held bytes
   pub script : Tree
@@ -41,8 +42,8 @@ pub record Headline (held : Held) (before now : Option (List ℕ)) (status : Sta
       → FollowsText script f birth (log history f)
   -- it ends with every fiber ended
   pub final : IsFinal (world (origin script) history)
-  -- the sink took exactly its report
-  pub written : Appends before now (report script history)
+  -- the sink took exactly its report, with the trace and the logs where they were asked for
+  pub written : Appends before now (report script (start_of script LIMITS) history traced logged)
   -- the status is how main ended
   pub ended : IsStatusOf (world (origin script) history) status
   -- its turns stand in the FIFO order
@@ -52,11 +53,13 @@ pub record Headline (held : Held) (before now : Option (List ℕ)) (status : Sta
 pub record AsksRun (words : List (List ℕ)) : Type 0 where
   pub script : List ℕ
   pub input : List ℕ
-  pub asks : request words ≡ Some (run script input)
+  pub traced : Bool
+  pub logged : Bool
+  pub asks : request words ≡ Some (run script input traced logged)
 
 -- the statuses of a call that did what the command asks for: a run ends as main ended
 abbrev pub EndsWell : Command → Status → Type 0
-EndsWell (run script input) status = (status ≡ Done) ⊎ (status ≡ Raised)
+EndsWell (run script input traced logged) status = (status ≡ Done) ⊎ (status ≡ Raised)
 EndsWell (check script) status = status ≡ Done
 EndsWell (show script) status = status ≡ Done
 

@@ -1,10 +1,10 @@
 -- The machine before the first entry of a run, and once the run is over. Only private contracts cite
 -- these words.
-use Rattle.std.specs.Prelude.{◌≡◌, ℕ, ◌+◌, Some, None, List, [], slice_get}
+use Rattle.std.specs.Prelude.{◌≡◌, Bool, Some, None, List, []}
+use Rattle.std.specs.Arc.{arc_value}
 use Rattle.pic_machine.specs.declared.entry.Happened.{Happened}
 use Rattle.pic_machine.specs.Final.{IsFinal}
-use Rattle.pic_machine.specs.History.{birth_in, origin_of, world}
-use Rattle.pic_machine.specs.Log.{log, visible}
+use Rattle.pic_machine.specs.History.{origin_of, world}
 use Rattle.pic_machine.specs.Order.{IsInFifoOrder}
 use Rattle.port_plain.specs.Shown.{Shown as Port}
 use Rattle.fiber_body.specs.Shown.{Shown as Body}
@@ -13,7 +13,8 @@ use Rattle.script_tree.specs.Tree.{Tree}
 use Rattle.pic_run.specs.declared.limits.TheConstants.{LIMITS}
 use Rattle.pic_run.specs.declared.report.Report.{Report}
 use Rattle.pic_run.specs.Run.{IsRunOf, origin}
-use Rattle.pic_run.specs.Report.{report_lines}
+use Rattle.pic_report.specs.Report.{report}
+use Rattle.pic_report.specs.View.{view_text}
 use Rattle.pic_run.specs.Status.{IsStatusOf}
 
 -- nothing has happened yet, and main is to run the script's main text
@@ -31,18 +32,8 @@ pub record IsOver (script : Tree) (port : Port Body) : Type 0 where
   pub ordered : IsInFifoOrder port.front
   pub out : port.out ≡ None
 
--- the body has the visible entries of fiber f, and the birth of fiber f
-pub record IsBodyOf (script : Tree) (hs : List Happened) (f : ℕ) (body : Body) : Type 0 where
-  pub noted : body.noted ≡ visible (log hs f)
-  pub birth : birth_in (origin script) hs f ≡ Some body.birth
-
--- the bodies are those of the fibers, in order from fiber 1
-abbrev pub AreBodies : Tree → List Happened → List Body → Type 0
-AreBodies script hs bodies =
-    (place : ℕ) (body : Body) → slice_get bodies place ≡ Some body → IsBodyOf script hs (place + 1) body
-
 -- the report is that of this history, which is a run of the script, and the status is the run's
-pub record IsReportOf (script : Tree) (history : List Happened) (made : Report) : Type 0 where
+pub record IsReportOf (script : Tree) (history : List Happened) (traced logged : Bool) (made : Report) : Type 0 where
   pub run : IsRunOf script history
-  pub lines : made.lines ≡ report_lines script history (world (origin script) history)
+  pub text : view_text (arc_value made.program) made.view ≡ report script (start_of script LIMITS) history traced logged
   pub status : IsStatusOf (world (origin script) history) made.status

@@ -1,5 +1,5 @@
 -- What a text that is refused was refused for, and what is written of it.
-use Rattle.std.specs.Prelude.{◌≡◌, ℕ, IsTrue, IsFalse, List, Ok, Err, ◌++◌, codes, decimal}
+use Rattle.std.specs.Prelude.{◌≡◌, ℕ, Bool, IsTrue, IsFalse, List, Ok, Err, ◌++◌, codes, decimal}
 use Rattle.script_tree.specs.declared.refusal.Refused.{Refused}
 use Rattle.script_tree.specs.Grammar.{grammar}
 use Rattle.script_tree.specs.Tree.{Tree}
@@ -19,12 +19,12 @@ unserved = record { line = 0; cause = 0 }
 -- the grammar's first fault, or they are one that a run doesn't serve yet.
 pub data IsRefused (bytes : List ℕ) : Command → Refused → Type 0 where
   no_script : {command : Command} {r : Refused} → grammar bytes ≡ Err r → IsRefused bytes command r
-  not_served : {script input : List ℕ} (tree : Tree) → grammar bytes ≡ Ok tree → IsFalse (is_built tree)
-      → IsRefused bytes (run script input) unserved
+  not_served : {script input : List ℕ} {traced logged : Bool} (tree : Tree) → grammar bytes ≡ Ok tree → IsFalse (is_built tree)
+      → IsRefused bytes (run script input traced logged) unserved
 
 -- the command can be done with this script
 abbrev pub Accepts : Command → Tree → Type 0
-Accepts (run script input) tree = IsTrue (is_built tree)
+Accepts (run script input traced logged) tree = IsTrue (is_built tree)
 Accepts (check script) tree = Unit {0}
 Accepts (show script) tree = Unit {0}
 

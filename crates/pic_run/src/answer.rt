@@ -91,23 +91,23 @@ fn answer_of_program(alloc: Global, request: &Request, program: Program) -> Resu
         → Answers bytes (command_of request.now) (answer_text answer) (answer_status answer)) }
 {
     match request.mode {
-        Mode::Run { .. } => answer_of_run(alloc, program),
+        Mode::Run { .. } => answer_of_run(alloc, program, request.trace, request.log),
         Mode::Check { .. } => Ok(Answer::Text("ok\n", Status::Done)),
         Mode::Show { .. } => Ok(Answer::Made(show(alloc, &program)?, Status::Done)),
     }
 }
 
 /// The report of a run, where all forms of the script are run so far.
-fn answer_of_run(alloc: Global, program: Program) -> Result<Answer, Memory>
+fn answer_of_run(alloc: Global, program: Program, trace: bool, log: bool) -> Result<Answer, Memory>
     ensures { IfOk result (λ answer. (bytes script input : List ℕ) → grammar bytes ≡ Ok program
-        → Answers bytes (run script input) (answer_text answer) (answer_status answer)) }
+        → Answers bytes (run script input trace log) (answer_text answer) (answer_status answer)) }
 {
     if !built(&program) {
         return refusal(alloc, UNSERVED);
     }
     let program = Arc::new(alloc, program)?;
     let port = run_program(alloc, &program)?;
-    Ok(Answer::Report(report_of(alloc, &program, port)?))
+    Ok(Answer::Report(report_of(alloc, program, port, trace, log)?))
 }
 
 /// The line that tells why a script was refused.

@@ -1,5 +1,5 @@
 //! The top call.
-ghost use Rattle.std.specs.Prelude.{◌≡◌, ◌≤◌, ◌⊎◌, ◌<◌, ℕ, List, Some, None, length, map, string_bytes, codes};
+ghost use Rattle.std.specs.Prelude.{◌≡◌, ◌≤◌, ◌⊎◌, ◌<◌, ℕ, Bool, List, Some, None, length, map, string_bytes, codes};
 ghost use Rattle.std.specs.Io.KnownBytes.{Appends};
 ghost use Rattle.pic_io.specs.Faults.{Rose};
 ghost use Rattle.pic_io.specs.Held.{holds};
@@ -11,9 +11,9 @@ ghost use Rattle.pic_run.specs.Headline.{AsksRun, CheckedBy, EndsWell, Headline,
 ghost use Rattle.pic_run.specs.Answer.{ended_status};
 
 use crate::answer::{Answer, answer_of};
-use crate::output::{WriteRefusal, put_all, put_lines};
 use crate::status::Status;
 use pic_io::{Files, Sink};
+use pic_report::{ReportRefusal, put_all, write_report};
 use std::alloc::Global;
 
 /// Does what the words ask for: reads the script, and writes the report of a run of it, that it is
@@ -27,9 +27,9 @@ pub fn run_one_call<F: Files, K: Sink>(
     out: &mut K,
 ) -> Status
     // A run: one legal history of the machine, and its report.
-    ensures headline { (result ≡ Status.Done) ⊎ (result ≡ Status.Raised) → (script input : List ℕ)
-        → request (map string_bytes words.now) ≡ Some (run script input)
-        → Headline (F.held files.old script) (K.taken out.old) (K.taken out.new) result }
+    ensures headline { (result ≡ Status.Done) ⊎ (result ≡ Status.Raised) → (script input : List ℕ) (traced logged : Bool)
+        → request (map string_bytes words.now) ≡ Some (run script input traced logged)
+        → Headline (F.held files.old script) traced logged (K.taken out.old) (K.taken out.new) result }
 
     // No other command ends so.
     ensures raised { result ≡ Status.Raised → AsksRun (map string_bytes words.now) }
@@ -115,17 +115,20 @@ fn call_once<F: Files, K: Sink>(
     match answer {
         Answer::Text(text, status) => ended(put_all(out, text.as_bytes()), status),
         Answer::Made(text, status) => ended(put_all(out, text.as_str().as_bytes()), status),
-        Answer::Report(report) => { ended(put_lines(out, report.lines.as_slice()), report.status) }
+        Answer::Report(report) => ended(
+            write_report(alloc, &report.program, &report.view, out),
+            report.status,
+        ),
     }
 }
 
 /// The status of a call whose text was written so.
-fn ended(written: Result<(), WriteRefusal>, good: Status) -> Status
+fn ended(written: Result<(), ReportRefusal>, good: Status) -> Status
     ensures { result ≡ ended_status written good }
 {
     match written {
         Ok(()) => good,
-        Err(WriteRefusal::WriteFault) => Status::WriteFault,
-        Err(WriteRefusal::Memory) => Status::OutOfMemory,
+        Err(ReportRefusal::WriteFault) => Status::WriteFault,
+        Err(ReportRefusal::Memory) => Status::OutOfMemory,
     }
 }

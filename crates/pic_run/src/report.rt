@@ -1,108 +1,92 @@
-//! The report of a run that is over.
-ghost use Rattle.std.specs.Prelude.{◌≡◌, ◌≢◌, ◌<◌, ◌++◌, ◌∷◌, [], All, List, codes, length, slice_get, string_bytes, IfOk};
-ghost use Rattle.pic_machine.specs.declared.entry.Happened.{Happened};
-ghost use Rattle.pic_run.specs.Over.{AreBodies, IsOver, IsReportOf};
-ghost use Rattle.pic_run.specs.Report.{fibers_lines, run_line};
+//! What is told of a run that is over.
+ghost use Rattle.std.specs.Prelude.{◌≡◌, Some, IfOk};
+ghost use Rattle.std.specs.Arc.{arc_value};
+ghost use Rattle.pic_machine.specs.Log.{entries};
+ghost use Rattle.pic_report.specs.View.{IsTraceOf, main_state};
+ghost use Rattle.pic_run.specs.Over.{IsOver, IsReportOf};
 ghost use Rattle.pic_run.specs.Status.{status_of};
 
-mod completers;
-mod comps;
-mod fibers;
-mod lines;
-
 use crate::status::Status;
-use comps::add_comps;
 use fiber_body::Body;
-use fibers::add_fibers;
-pub(crate) use lines::Lines;
 use pic_base::{Memory, Outcome};
-use pic_machine::FiberState;
+use pic_machine::{Entry, FiberState, Happened};
+use pic_report::{FiberView, RunView, view_of};
 use port_plain::PlainPort;
 use script_tree::Program;
 use std::alloc::Global;
+use std::sync::Arc;
 
-/// The report of a run, and the status that tells how main ended.
+/// What a report of a run of the program is made from, and the status that tells how main ended.
 #[derive(Drop)]
 pub(crate) struct Report {
-    pub(crate) lines: Lines,
+    pub(crate) program: Arc<Program>,
+    pub(crate) view: RunView,
     pub(crate) status: Status,
 }
 
-/// The report of a run of the program that is over.
+/// The report of a run of the program that is over, with its trace and the fibers' logs where they are
+/// asked for.
 pub(crate) fn report_of(
     alloc: Global,
-    program: &Program,
+    program: Arc<Program>,
     port: PlainPort<Body>,
+    trace: bool,
+    log: bool,
 ) -> Result<Report, Memory>
-    requires { IsOver program.now port }
-    ensures { IfOk result (IsReportOf program.now port.front) }
+    requires { IsOver (arc_value program) port }
+    ensures { IfOk result (IsReportOf (arc_value program) port.front trace log) }
 {
-    // The bodies are had by closing the port, so what else it tells is told before.
-    let mut comps = Lines::new(alloc);
-    add_comps(
-        alloc,
-        &mut comps,
-        program,
-        port.history(),
-        port.world().comps(),
-    )?;
-    let mut fibers = Vec::new(alloc);
-    fibers.extend_from_slice(port.world().fibers())?;
+    // The bodies are had by closing the port, so the trace is copied before.
+    let trace = trace_of(alloc, port.history(), trace)?;
     let Ok(closed) = port.close() else {
         return Err(Memory);
     };
-    let status = status_of(fibers.as_slice());
-    let lines = lines_of(
-        alloc,
+    let view = view_of(alloc, closed, trace, log)?;
+    let status = status_of(view.fibers.as_slice());
+    Ok(Report {
         program,
-        fibers.as_slice(),
-        closed.bodies.as_slice(),
-        comps,
-    )?;
-    Ok(Report { lines, status })
+        view,
+        status,
+    })
 }
 
-/// The lines of the report, of which those of the computations were made before.
-fn lines_of(
-    alloc: Global,
-    program: &Program,
-    fibers: &[FiberState],
-    bodies: &[Body],
-    comps: Lines,
-) -> Result<Lines, Memory>
-    requires { length bodies.now ≡ length fibers.now }
-    ensures { IfOk result (λ lines. (history : List Happened)
-        → AreBodies program.now history bodies.now
-        → lines ≡ (codes "picos report 1\n" ∷ []) ++ (fibers_lines program.now history 1 fibers.now
-        ++ (comps ++ (codes "clock 0\n" ∷ (run_line (slice_get fibers.now 0) ∷ []))))) }
+/// The entries of the history, where they are asked for.
+fn trace_of(alloc: Global, history: &[Happened], traced: bool) -> Result<Option<Vec<Entry>>, Memory>
+    ensures { IfOk result (IsTraceOf history.now traced) }
 {
-    let mut lines = Lines::new(alloc);
-    lines.push_text(alloc, "picos report 1\n")?;
-    add_fibers(alloc, &mut lines, program, fibers, bodies)?;
-    lines.append(comps)?;
-    lines.push_text(alloc, "clock 0\n")?;
-    lines.push(run_line(alloc, fibers)?)?;
-    Ok(lines)
-}
-
-/// How main ended.
-fn run_line(alloc: Global, fibers: &[FiberState]) -> Result<String, Memory>
-    ensures { IfOk result (λ line. string_bytes line ≡ run_line (slice_get fibers.now 0)) }
-{
-    match fibers.first().copied() {
-        Some(FiberState::Ended(Outcome::Cancelled(code))) => {
-            Ok(format!(in alloc; "run raised {code}\n")?)
-        }
-        _ => Ok(String::from_str(alloc, "run done\n")?),
+    if !traced {
+        return Ok(None);
     }
+    Ok(Some(entries_of(alloc, history)?))
+}
+
+/// The entries of the history.
+fn entries_of(alloc: Global, history: &[Happened]) -> Result<Vec<Entry>, Memory>
+    ensures { IfOk result (λ copied. copied.items ≡ entries history.now) }
+{
+    let mut entries = Vec::new(alloc);
+    for happened in history {
+        entries.push(happened.entry)?;
+    }
+    Ok(entries)
 }
 
 /// The status that tells how main ended.
-fn status_of(fibers: &[FiberState]) -> Status
-    ensures { result ≡ status_of (slice_get fibers.now 0) }
+fn status_of(fibers: &[FiberView]) -> Status
+    ensures { result ≡ status_of (main_state fibers.now) }
 {
-    match fibers.first().copied() {
-        Some(FiberState::Ended(Outcome::Cancelled(_))) => Status::Raised,
+    match fibers {
+        [main, ..] => status_of_state(main.state),
+        [] => Status::Done,
+    }
+}
+
+/// The same by how main stands.
+fn status_of_state(main: FiberState) -> Status
+    ensures { result ≡ status_of (Some main) }
+{
+    match main {
+        FiberState::Ended(Outcome::Cancelled(_)) => Status::Raised,
         _ => Status::Done,
     }
 }

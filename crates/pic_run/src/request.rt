@@ -1,7 +1,8 @@
 //! Reads the words of a command line.
-ghost use Rattle.std.specs.Prelude.{◌≡◌, Some, None, map, string_bytes, IfOk, IsErrOf};
-ghost use Rattle.pic_run.specs.Request.{command_of, is_option, of_run, of_script, request, script_of};
+ghost use Rattle.std.specs.Prelude.{◌≡◌, false, Some, None, map, string_bytes, IfOk, IsErrOf};
+ghost use Rattle.pic_run.specs.Request.{command_of, command_of_mode, is_option, of_run, of_script, request, script_of};
 
+use crate::flags::{Flags, flags_of};
 use std::alloc::AllocError;
 
 /// What the program is to do.
@@ -15,13 +16,27 @@ pub enum Mode {
     Show { script: String },
 }
 
-/// What the words of a command line ask for.
+/// What the words of a command line ask for: what to do, and whether the report of a run is to have
+/// what each fiber did, and each entry of the run.
 #[derive(Drop)]
 pub struct Request {
     pub mode: Mode,
+    pub log: bool,
+    pub trace: bool,
 }
 
 impl Request {
+    /// A request without flags.
+    fn plain(mode: Mode) -> Request
+        ensures { command_of result ≡ command_of_mode mode false false }
+    {
+        Request {
+            mode,
+            log: false,
+            trace: false,
+        }
+    }
+
     /// The name of the script's file.
     pub(crate) fn script(&self) -> &str
         ensures { result.now ≡ script_of (command_of self.now) }
@@ -55,15 +70,15 @@ impl From<AllocError> for RequestRefusal {
 }
 
 /// The request of the words, which are the arguments without the program's name: `run`, the name of
-/// a script's file and the name of an input's file, or `check` or `show` and the name of a script's
-/// file. No name begins with `-`.
+/// a script's file and the name of an input's file, and then `--log` and `--trace`, each at most once
+/// and in any order; or `check` or `show` and the name of a script's file. No name begins with `-`.
 pub fn request_of(words: &[String]) -> Result<Request, RequestRefusal>
     ensures read { IfOk result (λ r. request (map string_bytes words.now) ≡ Some (command_of r)) }
     ensures usage { IsErrOf result RequestRefusal.Usage → request (map string_bytes words.now) ≡ None }
 {
     match words {
         [word, script] => request_of_script(word, script),
-        [word, script, input] => request_of_run(word, script, input),
+        [word, script, input, flags @ ..] => request_of_run(word, script, input, flags),
         _ => Err(RequestRefusal::Usage),
     }
 }
@@ -80,34 +95,41 @@ fn request_of_script(word: &String, script: &String) -> Result<Request, RequestR
     }
     if word.as_str() == "check" {
         let script = script.clone()?;
-        return Ok(Request {
-            mode: Mode::Check { script },
-        });
+        return Ok(Request::plain(Mode::Check { script }));
     }
     if word.as_str() == "show" {
         let script = script.clone()?;
-        return Ok(Request {
-            mode: Mode::Show { script },
-        });
+        return Ok(Request::plain(Mode::Show { script }));
     }
     Err(RequestRefusal::Usage)
 }
 
-/// What a word, the name of a script and the name of an input ask for.
-fn request_of_run(word: &String, script: &String, input: &String) -> Result<Request, RequestRefusal>
+/// What a word, the name of a script, the name of an input and then flags ask for.
+fn request_of_run(
+    word: &String,
+    script: &String,
+    input: &String,
+    flags: &[String],
+) -> Result<Request, RequestRefusal>
     ensures read { IfOk result (λ r.
-        of_run (string_bytes word.now) (string_bytes script.now) (string_bytes input.now)
+        of_run (string_bytes word.now) (string_bytes script.now) (string_bytes input.now) (map string_bytes flags.now)
         ≡ Some (command_of r)) }
     ensures usage { IsErrOf result RequestRefusal.Usage
-        → of_run (string_bytes word.now) (string_bytes script.now) (string_bytes input.now) ≡ None }
+        → of_run (string_bytes word.now) (string_bytes script.now) (string_bytes input.now) (map string_bytes flags.now)
+        ≡ None }
 {
     if word.as_str() != "run" || is_option(script.as_str()) || is_option(input.as_str()) {
         return Err(RequestRefusal::Usage);
     }
+    let Some(Flags { log, trace }) = flags_of(flags) else {
+        return Err(RequestRefusal::Usage);
+    };
     let script = script.clone()?;
     let input = input.clone()?;
     Ok(Request {
         mode: Mode::Run { script, input },
+        log,
+        trace,
     })
 }
 

@@ -153,7 +153,7 @@ fn checks_and_shows(rt: HostRuntime) -> Result<(), Fail> {
 #[test]
 fn words_without_a_request(rt: HostRuntime) -> Result<(), Fail> {
     let alloc = rt.alloc();
-    let table: [&[&str]; 9] = [
+    let table: [&[&str]; 13] = [
         &[],
         &["run", "a"],
         &["check"],
@@ -163,6 +163,10 @@ fn words_without_a_request(rt: HostRuntime) -> Result<(), Fail> {
         &["run", "a", "-b"],
         &["walk", "a", "b"],
         &["run", "a", "b", "c"],
+        &["run", "a", "b", "--log", "--log"],
+        &["run", "a", "b", "--trace", "--log", "--trace"],
+        &["run", "--log", "a", "b"],
+        &["check", "a", "--log"],
     ];
     for texts in table {
         let words = words(alloc, texts)?;

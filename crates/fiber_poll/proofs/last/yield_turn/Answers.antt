@@ -27,10 +27,10 @@ lay-requires-clause-after g c =
     let port = g.P.Port.sight c.args.port.now in
     let ready : Shown = c.reserve.new.self in
     let on = on_reserved port c.args.body ready None c.requires.up c.reserve.ensures.notes c.reserve.ensures.rest in
-    let before = before_reserved c.args.body ready c.args.place stmt.Yield c.requires.before c.reserve.ensures.notes c.reserve.ensures.rest in
+    let before = before_reserved c.args.body ready c.args.spot stmt.Yield c.requires.before c.reserve.ensures.notes c.reserve.ensures.rest in
     subst (λ (d : Shown). (noted : Shown) → Notes (carry_of d) (carry_of noted) (record { fiber = fiber_of (carry_of d); call = Yield; reply = Plain } ∷ []) → IsSameRest d noted
     → Fits noted (log port.front (fiber_of (carry_of d)) ++ event (fiber_of (carry_of d)) Yield Plain ∷ [])) (sym c.go_on.ensures)
-    (λ noted notes rest. fits_yielded port ready noted c.args.place on.up before notes rest)
+    (λ noted notes rest. fits_yielded port ready noted c.args.spot on.up before notes rest)
 
 pub returns-in-Ok : goal.returns-in-Ok
 returns-in-Ok g c =
@@ -55,12 +55,12 @@ returns-in-Err g c =
     let ready : Shown = c.reserve.new.self in
     let back : Shown = c.in-Err.body in
     let reserved = on_reserved port c.args.body ready told c.requires.up c.reserve.ensures.notes c.reserve.ensures.rest in
-    let before = before_reserved c.args.body ready c.args.place stmt.Yield c.requires.before c.reserve.ensures.notes c.reserve.ensures.rest in
-    let spared : Spared port later (carry_of (behind ready c.args.place)) (carry_of back) = subst (λ (d : Shown). Spared port later (carry_of d) (carry_of back)) c.go_on.ensures c.in-Err.ensures.none.0.0 in
-    let rest : IsSameRest (behind ready c.args.place) back = subst (λ (d : Shown). IsSameRest d back) c.go_on.ensures c.in-Err.ensures.none.1 in
-    let set : c.set_standing.new.self ≡ record back { steps = ready.steps; standing = At c.args.place } =
-    c.set_standing.ensures ∙ (ap (λ (d : Shown). record d { standing = At c.args.place }) c.set_steps.ensures ∙ ap (λ (n : ℕ). record back { steps = n; standing = At c.args.place }) c.steps-steps.ensures) in
-    let on = subst (λ (d : Shown). IsOn port later ready d told told) (sym set) (set_back port later ready back c.args.place told reserved.up before spared rest) in
+    let before = before_reserved c.args.body ready c.args.spot stmt.Yield c.requires.before c.reserve.ensures.notes c.reserve.ensures.rest in
+    let spared : Spared port later (carry_of (behind ready c.args.spot)) (carry_of back) = subst (λ (d : Shown). Spared port later (carry_of d) (carry_of back)) c.go_on.ensures c.in-Err.ensures.none.0.0 in
+    let rest : IsSameRest (behind ready c.args.spot) back = subst (λ (d : Shown). IsSameRest d back) c.go_on.ensures c.in-Err.ensures.none.1 in
+    let set : c.set_standing.new.self ≡ record back { steps = ready.steps; standing = At c.args.spot.block c.args.spot.place } =
+    c.set_standing.ensures ∙ (ap (λ (d : Shown). record d { standing = At c.args.spot.block c.args.spot.place }) c.set_steps.ensures ∙ ap (λ (n : ℕ). record back { steps = n; standing = At c.args.spot.block c.args.spot.place }) c.steps-steps.ensures) in
+    let on = subst (λ (d : Shown). IsOn port later ready d told told) (sym set) (set_back port later ready back c.args.spot told reserved.up before spared rest) in
     handed port later c.args.body c.set_standing.new.self told told c.in-Err.fault c.handed_back.result
     (on_trans port port later c.args.body ready c.set_standing.new.self told told told reserved on)
     (gave_up port later ready back told c.in-Err.fault c.in-Err.ensures.none.0.1) c.handed_back.ensures

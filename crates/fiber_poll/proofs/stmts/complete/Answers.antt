@@ -20,6 +20,6 @@ returns-in_err-reply-clause-on g c =
 pub returns-clause-on : goal.returns-clause-on
 returns-clause-on g c =
     λ told. subst (λ (d : Shown). IsOn (g.P.Port.sight c.args.port.now) (g.P.Port.sight c.complete.new.self) c.args.body.now d told told)
-    (sym (c.go_on.ensures ∙ ap (λ (d : Shown). behind d c.args.place) c.set_register.ensures))
-    (was_completed (g.P.Port.sight c.args.port.now) (g.P.Port.sight c.complete.new.self) c.args.body.now c.complete.new.body c.args.place c.args.register c.args.comp c.won.result c.args.outcome c.in_ok-reply.reply
+    (sym (c.go_on.ensures ∙ ap (λ (d : Shown). behind d c.args.spot) c.set_register.ensures))
+    (was_completed (g.P.Port.sight c.args.port.now) (g.P.Port.sight c.complete.new.self) c.args.body.now c.complete.new.body c.args.spot c.args.register c.args.comp c.won.result c.args.outcome c.in_ok-reply.reply
     c.requires.up c.requires.before c.won.ensures c.complete.ensures.rest c.in_ok-reply.ensures.made told)

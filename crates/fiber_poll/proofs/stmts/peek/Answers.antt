@@ -20,7 +20,7 @@ returns-in_err-seen-clause-on g c =
 pub returns-clause-on : goal.returns-clause-on
 returns-clause-on g c =
     λ told. subst (λ (d : Shown). IsOn (g.P.Port.sight c.args.port.now) (g.P.Port.sight c.peek.new.self) c.args.body.now d told told)
-    (sym (c.go_on.ensures ∙ ap (λ (d : Shown). behind d c.args.place) (c.set_register-2.ensures ∙ ap (λ (d : Shown). record d { registers = slice_set d.registers c.args.registers.1 c.outcome_number.result }) c.set_register.ensures)))
-    (was_peeked (g.P.Port.sight c.args.port.now) (g.P.Port.sight c.peek.new.self) c.args.body.now c.peek.new.body c.args.place c.args.registers.0 c.args.registers.1 c.args.comp
+    (sym (c.go_on.ensures ∙ ap (λ (d : Shown). behind d c.args.spot) (c.set_register-2.ensures ∙ ap (λ (d : Shown). record d { registers = slice_set d.registers c.args.registers.1 c.outcome_number.result }) c.set_register.ensures)))
+    (was_peeked (g.P.Port.sight c.args.port.now) (g.P.Port.sight c.peek.new.self) c.args.body.now c.peek.new.body c.args.spot c.args.registers.0 c.args.registers.1 c.args.comp
     c.state_number.result c.outcome_number.result c.in_ok-seen.seen
     c.requires.up c.requires.before c.state_number.ensures c.outcome_number.ensures c.peek.ensures.rest c.in_ok-seen.ensures.made told)

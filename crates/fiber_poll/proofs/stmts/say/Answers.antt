@@ -12,5 +12,5 @@ returns-in_err-say-clause-on g c =
 pub returns-clause-on : goal.returns-clause-on
 returns-clause-on g c =
     λ told. subst (λ (d : Shown). IsOn (g.P.Port.sight c.args.port.now) (g.P.Port.sight c.say.new.self) c.args.body.now d told told) (sym c.go_on.ensures)
-    (was_said (g.P.Port.sight c.args.port.now) (g.P.Port.sight c.say.new.self) c.args.body.now c.say.new.body c.args.place c.args.operand c.value_of-value.result
+    (was_said (g.P.Port.sight c.args.port.now) (g.P.Port.sight c.say.new.self) c.args.body.now c.say.new.body c.args.spot c.args.operand c.value_of-value.result
     c.requires.up c.requires.before c.value_of-value.ensures c.say.ensures.rest c.in_ok-say.ensures.made told)

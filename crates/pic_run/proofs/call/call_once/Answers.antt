@@ -1,8 +1,10 @@
 use Rattle.std.proofs.Common.{List, ℕ, map, subst, ◌∙◌}
-use Rattle.std.specs.List.{flat_map}
 use Rattle.std.specs.String.{string_bytes}
 use Rattle.std.proofs.KnownBytes.{Appends-nil}
-use Rattle.pic_run.specs.Output.{Puts}
+use Rattle.pic_report.specs.Output.{Puts}
+use Rattle.pic_report.specs.View.{view_text}
+use Rattle.script_tree.specs.Tree.{Tree}
+use Rattle.std.specs.Arc.{arc_value}
 use Rattle.pic_run.specs.Due.{asked_of, gave_up}
 use Rattle.pic_run.proofs.Calls.{serves_put}
 use Rattle.pic_run.proofs.call.call_once.Goals as goal
@@ -38,11 +40,11 @@ returns-in-Made-clause-serves g c =
 pub returns-in-Report-clause-serves : goal.returns-in-Report-clause-serves
 returns-in-Report-clause-serves g c =
     let before = g.K.Sink.taken c.args.out.now in
-    let now = g.K.Sink.taken c.put_lines.new.out in
+    let now = g.K.Sink.taken c.write_report.new.out in
     let faults = g.K.Sink.fault_count c.args.out.now in
-    let faults_now = g.K.Sink.fault_count c.put_lines.new.out in
+    let faults_now = g.K.Sink.fault_count c.write_report.new.out in
     let due = rw c.in-Report.is at c.in-Ok.ensures.due in
-    let puts = subst (λ (ls : List (List ℕ)). Puts before now faults faults_now (flat_map (λ line. line) ls) c.put_lines.result) c.as_slice.ensures c.put_lines.ensures in
+    let puts = subst (λ (t : Tree). Puts before now faults faults_now (view_text t c.in-Report.report.view) c.write_report.result) c.deref.ensures c.write_report.ensures in
     rw c.ended-in-Report.ensures
     (serves_put (asked_of (map string_bytes c.args.words.now) (g.F.Files.held c.args.files.now) (g.F.Files.fault_count c.args.files.now) (g.F.Files.fault_count c.answer_of.new.files) (g.F.Files.last_failed c.answer_of.new.files))
-    before now faults faults_now (flat_map (λ line. line) c.in-Report.report.lines) c.in-Report.report.status c.put_lines.result due puts)
+    before now faults faults_now (view_text (arc_value c.in-Report.report.program) c.in-Report.report.view) c.in-Report.report.status c.write_report.result due puts)

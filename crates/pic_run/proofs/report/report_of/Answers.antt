@@ -1,21 +1,22 @@
-use Rattle.std.proofs.Common.{◌≡◌, List, slice_get, refl, ap, ◌∙◌}
-use Rattle.pic_machine.specs.declared.state.FiberState.{FiberState}
-use Rattle.pic_machine.specs.History.{origin_of, world}
-use Rattle.pic_run.specs.Report.{comps_lines, declared_names}
+use Rattle.std.proofs.Common.{List, refl, ap, subst, ◌∙◌}
+use Rattle.std.specs.Arc.{arc_value}
+use Rattle.pic_machine.specs.declared.entry.Happened.{Happened}
+use Rattle.fiber_body.specs.Starts.{start_of}
+use Rattle.pic_report.specs.declared.view.FiberView.{FiberView}
+use Rattle.pic_report.specs.View.{IsTraceOf, main_state}
+use Rattle.pic_run.specs.declared.limits.TheConstants.{LIMITS}
+use Rattle.pic_run.specs.declared.report.Report.{Report}
 use Rattle.pic_run.specs.Status.{status_of}
-use Rattle.pic_run.proofs.Closing.{report_left}
+use Rattle.pic_run.proofs.Closing.{left_of_run, report_left}
 use Rattle.pic_run.proofs.report.report_of.Goals as goal
-use Rattle.pic_run.proofs.report.report_of.Goals.{After-drop-fibers-2}
-
-module _ (c : After-drop-fibers-2) where
-  fibers_are : c.extend_from_slice.new.self.items ≡ (world (origin_of c.args.port.start) c.args.port.front).fibers
-  fibers_are = c.in_ok-extend_from_slice.ensures.items ∙ (rw (c.new-fibers.ensures.items, c.fibers.ensures, c.world-2.ensures.now) refl)
-
-  comps_are : c.add_comps.new.lines ≡ comps_lines (declared_names c.args.program.now) c.args.port.front 0 (world (origin_of c.args.port.start) c.args.port.front).comps
-  comps_are = c.in_ok-add_comps.ensures ∙ (rw (c.new-comps.ensures, c.history.ensures, c.comps.ensures, c.world.ensures.now) refl)
 
 pub returns : goal.returns
 returns c =
-    report_left c.args.program.now c.args.port c.in-Ok.closed c.requires c.in-Ok.ensures.left c.extend_from_slice.new.self.items c.add_comps.new.lines (_)
-    (fibers_are c) (comps_are c) (rw (c.as_slice-2.ensures.value, c.as_slice-3.ensures.value) at c.in_ok-lines.ensures)
-    (c.status_of-status.ensures ∙ ap (λ (fs : List FiberState). status_of (slice_get fs 0)) c.as_slice.ensures.value)
+    let script = arc_value c.args.program in
+    let start = start_of script LIMITS in
+    let history = c.args.port.front in
+    let left = left_of_run script c.args.port c.in-Ok.closed c.requires c.in-Ok.ensures.left in
+    let trace = subst (λ (hs : List Happened). IsTraceOf hs c.args.trace c.in_ok-trace.trace) c.history.ensures c.in_ok-trace.ensures in
+    let made : Report = record { program = c.args.program; view = c.in_ok-view.view; status = c.status_of-status.result } in
+    report_left script c.args.port c.in-Ok.closed c.requires c.in-Ok.ensures.left c.args.trace c.args.log made refl (c.in_ok-view.ensures.view start history c.args.trace left trace)
+    (c.in_ok-view.ensures.text script start history c.args.trace refl left trace) (c.status_of-status.ensures ∙ ap (λ (views : List FiberView). status_of (main_state views)) c.as_slice.ensures.value)

@@ -1,4 +1,5 @@
-use Rattle.std.proofs.Common.{refl}
+use Rattle.std.proofs.Common.{◌<◌, length, refl, subst}
+use Rattle.script_tree.specs.Tree.{Tree}
 use Rattle.pic_run.proofs.Opening.{can_start, new_clock, new_main}
 use Rattle.pic_run.proofs.run.open.Goals as goal
 
@@ -10,3 +11,6 @@ open-requires-clause-main c = new_main _ _ _ c.in_ok-main.ensures c.start_of-sta
 
 pub open-requires-clause-clock : goal.open-requires-clause-clock
 open-requires-clause-clock c = new_clock _ _ _ c.clock.ensures
+
+pub new-requires : goal.new-requires
+new-requires c = subst (λ (t : Tree). c.start_of-start.result.text < length t.texts) c.deref.ensures c.start_of-start.ensures.main

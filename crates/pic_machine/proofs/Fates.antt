@@ -1,0 +1,148 @@
+-- A fiber that has ended tells so by its log: the last entry there is its end.
+use Rattle.std.proofs.Common.{◌≡◌, ◌≢◌, ℕ, zero, suc, ◌+◌, ◌-◌, ◌==◌, inl, inr, Bool, true, false, Some, List, [], ◌∷◌, ◌++◌, slice_get, slice_set, refl, sym, ap, subst, ◌∙◌, append_assoc, arith}
+use Rattle.std.proofs.lemmas.Bool.Decides.{nat_tests}
+use Rattle.pic_base.specs.declared.outcome.Outcome.{Outcome}
+use Rattle.pic_machine.specs.declared.state.FiberState.{FiberState}
+use Rattle.pic_machine.specs.declared.state.FiberState.TheVariants.{Live, Ended}
+use Rattle.pic_machine.specs.declared.entry.Call.{Call}
+use Rattle.pic_machine.specs.declared.entry.Call.TheVariants.{Turn, Yield, Complete, Peek, Fork, Say, End}
+use Rattle.pic_machine.specs.declared.entry.Happened.{Happened}
+use Rattle.pic_machine.specs.State.{State, owed_of}
+use Rattle.pic_machine.specs.Duty.{fulfilled}
+use Rattle.pic_machine.specs.Step.{Allowed, MayAct, after, has_room, owing, reply_of, with_fiber}
+use Rattle.pic_machine.specs.History.{Origin, IsLegal, world, world_from}
+use Rattle.pic_machine.specs.Log.{is_logged, is_turn, log}
+use Rattle.pic_machine.proofs.Histories.{world-push}
+use Rattle.pic_machine.proofs.Onward.{logged}
+use Rattle.pic_machine.proofs.Standing.{not_same}
+use Rattle.pic_machine.proofs.Steps.{not_clock, outcome_fibers, slice_get-set_other}
+
+-- ---- entry by entry
+
+-- the entry may be made in the world, and has its reply
+pub record IsStep (w : State) (h : Happened) : Type 0 where
+  pub allowed : Allowed w h.entry.fiber h.entry.call
+  pub reply : h.entry.reply ≡ reply_of w h.entry.fiber h.entry.call
+
+-- each of the entries is a step from the world that those before it lead to
+abbrev pub AreSteps : State → List Happened → Type 0
+AreSteps w [] = Unit {0}
+AreSteps w (h ∷ hs) = IsStep w h × AreSteps (after w h.entry.fiber h.entry.call) hs
+
+steps_from : (origin : Origin) (front back : List Happened) → IsLegal origin (front ++ back) → AreSteps (world origin front) back
+steps_from origin front [] legal = tt
+steps_from origin front (h ∷ back) legal =
+    let assoc : (front ++ h ∷ []) ++ back ≡ front ++ h ∷ back = append_assoc front (h ∷ []) back in
+    let follows = legal.each front back h refl in
+    let rest : AreSteps (world origin (front ++ h ∷ [])) back = steps_from origin (front ++ h ∷ []) back (subst (IsLegal origin) (sym assoc) legal) in
+    (record { allowed = follows.may.allowed; reply = follows.reply }, subst (λ (w : State). AreSteps w back) (world-push origin front h) rest)
+
+pub steps : (origin : Origin) (hs : List Happened) → IsLegal origin hs → AreSteps origin.world hs
+steps origin hs legal = steps_from origin [] hs legal
+
+-- ---- the end of a fiber
+
+-- a fiber that has ended behind a call ended in it, or had ended before and didn't make it
+pub data EndedBy (w : State) (g : ℕ) (call : Call) (place : ℕ) (o : Outcome) : Type 0 where
+  before : slice_get w.fibers place ≡ Some (Ended o) → g ≢ place + 1 → EndedBy w g call place o
+  here : g ≡ place + 1 → call ≡ End o → EndedBy w g call place o
+
+-- who may act hasn't ended
+acts_not : (w : State) (g place : ℕ) (o : Outcome) → MayAct w g → slice_get w.fibers place ≡ Some (Ended o) → g ≢ place + 1
+acts_not w g place o (inl clock) ended = λ same. absurd (omega (arith, clock, same))
+acts_not w g place o (inr live) ended = λ same.
+    let one : g - 1 ≡ place = omega (arith, same) in
+    let both : Some Live ≡ Some (Ended o) = sym live.live ∙ (ap (λ (k : ℕ). slice_get w.fibers k) one ∙ ended) in
+    absurd cc
+
+last_live : (fibers : List FiberState) (place : ℕ) (o : Outcome) → slice_get (fibers ++ Live ∷ []) place ≡ Some (Ended o) → slice_get fibers place ≡ Some (Ended o)
+last_live [] zero o is = absurd cc
+last_live [] (suc place) o is = absurd cc
+last_live (x ∷ xs) zero o is = is
+last_live (x ∷ xs) (suc place) o is = last_live xs place o is
+
+forked_none : (w : State) (place : ℕ) (o : Outcome) (b : Bool) → has_room w ≡ b → slice_get (with_fiber w).fibers place ≡ Some (Ended o) → slice_get w.fibers place ≡ Some (Ended o)
+forked_none w place o true room is = last_live w.fibers place o (rw room at is)
+forked_none w place o false room is = rw room at is
+
+-- another fiber's end, or this one's
+set_within : (fibers : List FiberState) (place : ℕ) (x s : FiberState) → slice_get (slice_set fibers place x) place ≡ Some s → x ≡ s
+set_within [] place x s is = absurd cc
+set_within (y ∷ ys) zero x s is = cc
+set_within (y ∷ ys) (suc place) x s is = set_within ys place x s is
+
+end_by : (w : State) (g : ℕ) (x : Outcome) (place : ℕ) (o : Outcome) (b : Bool) → (place == (g - 1)) ≡ b → g ≢ 0 → MayAct w g → slice_get (slice_set w.fibers (g - 1) (Ended x)) place ≡ Some (Ended o) → EndedBy w g (End x) place o
+end_by w g x place o true same fiber acts is =
+    let at : place ≡ g - 1 = grind (arith, nat_tests, same) in
+    let ended : Ended x ≡ Ended o = set_within w.fibers (g - 1) (Ended x) (Ended o) (subst (λ (k : ℕ). slice_get (slice_set w.fibers (g - 1) (Ended x)) k ≡ Some (Ended o)) at is) in
+    let outcome : x ≡ o = cc in
+    here (omega (arith, at, fiber)) (ap End outcome)
+end_by w g x place o false apart fiber acts is =
+    let other : place ≢ g - 1 = grind (arith, nat_tests, apart) in
+    let was : slice_get w.fibers place ≡ Some (Ended o) = sym (slice_get-set_other w.fibers (g - 1) place (Ended x) other) ∙ is in
+    before was (acts_not w g place o acts was)
+
+ended_by : (w : State) (g : ℕ) (call : Call) (place : ℕ) (o : Outcome) → Allowed w g call → slice_get (after w g call).fibers place ≡ Some (Ended o) → EndedBy w g call place o
+ended_by w g Turn place o allowed is = before is (acts_not w g place o allowed.caller is)
+ended_by w g Yield place o allowed is = before is (acts_not w g place o allowed.caller is)
+ended_by w g (Complete c x) place o allowed is =
+    let was : slice_get w.fibers place ≡ Some (Ended o) = sym (ap (λ (fs : List FiberState). slice_get fs place) (outcome_fibers (owing w g (fulfilled (owed_of w g))) c x (slice_get w.comps c))) ∙ is in
+    before was (acts_not w g place o allowed.caller was)
+ended_by w g (Peek c) place o allowed is = before is (acts_not w g place o allowed.caller is)
+ended_by w g (Fork text value) place o allowed is =
+    let was = forked_none w place o (has_room w) refl is in
+    before was (acts_not w g place o allowed.caller was)
+ended_by w g (Say v) place o allowed is = before is (acts_not w g place o allowed.caller is)
+ended_by w g (End x) place o allowed is = end_by w g x place o (place == (g - 1)) refl (not_clock w g (End x) allowed tt) allowed.caller is
+
+-- ---- the log
+
+-- the last of a log is the end of its fiber
+pub record EndsSo (hs : List Happened) (o : Outcome) : Type 0 where
+  pub front : List Happened
+  pub last : Happened
+  pub is : hs ≡ front ++ last ∷ []
+  pub call : last.entry.call ≡ End o
+
+-- the fiber had ended in the world, and did nothing since; or its end is the last that it did since
+data EndsFrom (w : State) (hs : List Happened) (place : ℕ) (o : Outcome) : Type 0 where
+  long_ago : slice_get w.fibers place ≡ Some (Ended o) → log hs (place + 1) ≡ [] → EndsFrom w hs place o
+  since : EndsSo (log hs (place + 1)) o → EndsFrom w hs place o
+
+one_before : (h : Happened) (hs : List Happened) (o : Outcome) → EndsSo hs o → EndsSo (h ∷ hs) o
+one_before h hs o ends = record { front = h ∷ ends.front; last = ends.last; is = ap (λ (zs : List Happened). h ∷ zs) ends.is; call = ends.call }
+
+unlogged : (h : Happened) (f : ℕ) → h.entry.fiber ≢ f → is_logged f h ≡ false
+unlogged h f other = rw (not_same h.entry.fiber f (h.entry.fiber == f) refl other) refl
+
+module _ (w : State) (h : Happened) (hs : List Happened) (place : ℕ) (o : Outcome) where
+  behind : (b : Bool) → is_logged (place + 1) h ≡ b → EndsSo (log hs (place + 1)) o → EndsFrom w (h ∷ hs) place o
+  behind true mine ends = since (rw mine (one_before h (log hs (place + 1)) o ends))
+  behind false other ends = since (rw other ends)
+
+  now : EndedBy w h.entry.fiber h.entry.call place o → log hs (place + 1) ≡ [] → EndsFrom w (h ∷ hs) place o
+  now (before was other) none = long_ago was (rw (unlogged h (place + 1) other) none)
+  now (here mine call) none =
+      let within : is_turn h.entry.call ≡ false = ap is_turn call in
+      since (rw (logged h (place + 1) mine within) (record { front = []; last = h; is = ap (λ (zs : List Happened). h ∷ zs) none; call = call }))
+
+  one_more : IsStep w h → EndsFrom (after w h.entry.fiber h.entry.call) hs place o → EndsFrom w (h ∷ hs) place o
+  one_more step (long_ago was none) = now (ended_by w h.entry.fiber h.entry.call place o step.allowed was) none
+  one_more step (since ends) = behind (is_logged (place + 1) h) refl ends
+
+ends_from : (w : State) (hs : List Happened) (place : ℕ) (o : Outcome) → AreSteps w hs → slice_get (world_from w hs).fibers place ≡ Some (Ended o) → EndsFrom w hs place o
+ends_from w [] place o are is = long_ago is refl
+ends_from w (h ∷ hs) place o are is = one_more w h hs place o are.0 (ends_from (after w h.entry.fiber h.entry.call) hs place o are.1 is)
+
+-- no fiber has ended where main is the one fiber, and live
+alone_live : (place : ℕ) (o : Outcome) → slice_get (Live ∷ []) place ≡ Some (Ended o) → ⊥
+alone_live zero o is = cc
+alone_live (suc place) o is = cc
+
+since_start : (w : State) (hs : List Happened) (place : ℕ) (o : Outcome) → w.fibers ≡ Live ∷ [] → EndsFrom w hs place o → EndsSo (log hs (place + 1)) o
+since_start w hs place o main (long_ago was none) = absurd (alone_live place o (rw main at was))
+since_start w hs place o main (since ends) = ends
+
+-- the log of a fiber that has ended ends in its end
+pub ends_log : (origin : Origin) (hs : List Happened) (place : ℕ) (o : Outcome) → origin.world.fibers ≡ Live ∷ [] → IsLegal origin hs → slice_get (world origin hs).fibers place ≡ Some (Ended o) → EndsSo (log hs (place + 1)) o
+ends_log origin hs place o main legal is = since_start origin.world hs place o main (ends_from origin.world hs place o (steps origin hs legal) is)

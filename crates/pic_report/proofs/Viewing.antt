@@ -1,0 +1,96 @@
+-- From what is left of a port to the view of its history.
+use Rattle.std.proofs.Common.{◌≡◌, ◌≢◌, ℕ, suc, ◌+◌, ◌-◌, ◌<◌, ◌≤◌, ◌⊎◌, inl, inr, Bool, false, Some, None, List, [], ◌∷◌, ◌++◌, length, slice_get, get_or, refl, ap, subst, ◌∙◌, arith}
+use Rattle.std.proofs.lemmas.Option.{get_or_from_slice_get, slice_get_cases, slice_get_within}
+use Rattle.pic_base.specs.declared.outcome.Outcome.{Outcome}
+use Rattle.pic_machine.specs.declared.closed.Closed.{Closed}
+use Rattle.pic_machine.specs.declared.entry.Entry.{Entry}
+use Rattle.pic_machine.specs.declared.entry.Happened.{Happened}
+use Rattle.pic_machine.specs.declared.state.FiberState.{FiberState}
+use Rattle.pic_machine.specs.declared.state.FiberState.TheVariants.{Live, Ended}
+use Rattle.pic_machine.specs.declared.world.Start.{Start}
+use Rattle.pic_machine.specs.Home.{IsHome}
+use Rattle.pic_machine.specs.History.{Origin, IsLegal, birth_in, origin_of, world}
+use Rattle.pic_machine.specs.Log.{is_turn, log, visible}
+use Rattle.pic_machine.proofs.Fates.{EndsSo, ends_log}
+use Rattle.pic_machine.proofs.Histories.{visible-push}
+use Rattle.fiber_body.specs.Fits.{Fits}
+use Rattle.fiber_body.specs.Shown.{Shown as Body, carry_of}
+use Rattle.pic_report.specs.declared.view.FiberView.{FiberView}
+use Rattle.pic_report.specs.declared.view.RunView.{RunView}
+use Rattle.pic_report.specs.Lines.{ended_in, fate, fate_of}
+use Rattle.pic_report.specs.Taken.{AreTakenFrom, IsTakenFrom}
+use Rattle.pic_report.specs.View.{IsFiberView, IsLeftOf, IsTraceOf, IsViewOf}
+
+-- ---- how a fiber stands
+
+some_last : (es : List Entry) (e : Entry) → 0 < length (es ++ e ∷ [])
+some_last [] e = omega arith
+some_last (x ∷ es) e = omega arith
+
+last_of : (es : List Entry) (e : Entry) → slice_get (es ++ e ∷ []) (length (es ++ e ∷ []) - 1) ≡ Some e
+last_of [] e = refl
+last_of (x ∷ es) e = let one : length (x ∷ (es ++ e ∷ [])) - 1 ≡ suc (length (es ++ e ∷ []) - 1) = omega (arith, some_last es e) in ap (λ (k : ℕ). slice_get (x ∷ (es ++ e ∷ [])) k) one ∙ last_of es e
+
+-- entries that end in an end tell it
+fate_told : (hs : List Happened) (o : Outcome) → EndsSo hs o → fate (visible hs) ≡ Ended o
+fate_told hs o ends =
+    let within : is_turn ends.last.entry.call ≡ false = ap is_turn ends.call in
+    let all : visible hs ≡ visible ends.front ++ ends.last.entry ∷ [] = ap visible ends.is ∙ visible-push ends.front ends.last within in
+    ap fate all ∙ (ap fate_of (last_of (visible ends.front) ends.last.entry) ∙ ap ended_in ends.call)
+
+fate_of_state : (start : Start) (hs : List Happened) (place : ℕ) (state : FiberState) → IsLegal (origin_of start) hs → state ≢ Live → slice_get (world (origin_of start) hs).fibers place ≡ Some state → fate (visible (log hs (place + 1))) ≡ state
+fate_of_state start hs place Live legal ended is = absurd (ended refl)
+fate_of_state start hs place (Ended o) legal ended is = fate_told (log hs (place + 1)) o (ends_log (origin_of start) hs place o refl legal is)
+
+-- ---- the view
+
+module _ (start : Start) (history : List Happened) (closed : Closed Body) (left : IsLeftOf start history closed) where
+  -- what stands at the port's origin and front stands of the start and the history
+  carry : (P : Origin → List Happened → Type 0) → P left.port.origin left.port.front → P (origin_of start) history
+  carry P p = subst (λ (hs : List Happened). P (origin_of start) hs) left.front (subst (λ (o : Origin). P o left.port.front) left.origin p)
+
+  legal : IsLegal (origin_of start) history
+  legal = carry (λ o hs. IsLegal o hs) left.left.legal
+
+  count : length closed.bodies.items ≡ length (world (origin_of start) history).fibers
+  count = carry (λ o hs. length closed.bodies.items ≡ length (world o hs).fibers) left.left.count
+
+  not_clock : (place : ℕ) → place + 1 ≢ 0
+  not_clock place = λ is. absurd (omega (arith, is))
+
+  ended : (place : ℕ) (state : FiberState) → slice_get (world (origin_of start) history).fibers place ≡ Some state → state ≢ Live
+  ended place state is =
+      let fibers = (world (origin_of start) history).fibers in
+      subst (λ (s : FiberState). s ≢ Live) (get_or_from_slice_get fibers place state Live is) (left.final.ended place Live (slice_get_within fibers place state is))
+
+  viewed : (place : ℕ) (body : Body) (state : FiberState) (view : FiberView) → slice_get closed.bodies.items place ≡ Some body → slice_get (world (origin_of start) history).fibers place ≡ Some state → IsTakenFrom body view
+      → IsFiberView start history (place + 1) state view
+  viewed place body state view there is taken =
+      let home : IsHome carry_of Fits left.port (place + 1) body = left.left.home place body there in
+      let noted : body.noted ≡ visible (log history (place + 1)) = carry (λ o hs. body.noted ≡ visible (log hs (place + 1))) home.fitting.noted in
+      record {
+        birth = body.birth;
+        born = carry (λ o hs. birth_in o hs (place + 1) ≡ Some body.birth) (home.birth (not_clock place));
+        text = taken.text;
+        state_is = taken.state ∙ (ap fate noted ∙ fate_of_state start history place state legal (ended place state is) is);
+        noted = taken.noted ∙ noted;
+      }
+
+  module _ (views : List FiberView) (taken : AreTakenFrom closed.bodies.items views) where
+    by_place : (place : ℕ) (state : FiberState) (view : FiberView) → slice_get (world (origin_of start) history).fibers place ≡ Some state → slice_get views place ≡ Some view
+        → ((x : Body) × (place < length closed.bodies.items) × (slice_get closed.bodies.items place ≡ Some x) × (get_or closed.bodies.items place x ≡ x)) ⊎ ((length closed.bodies.items ≤ place) × (slice_get closed.bodies.items place ≡ None))
+        → IsFiberView start history (place + 1) state view
+    by_place place state view is seen (inl found) = viewed place found.0 state view found.2 is (taken.each place found.0 view found.2 seen)
+    by_place place state view is seen (inr past) = absurd (omega (arith, past.0, count, slice_get_within (world (origin_of start) history).fibers place state is))
+
+  pub view_left : (traced logged : Bool) (view : RunView) → AreTakenFrom closed.bodies.items view.fibers.items → view.clock_entries.items ≡ closed.clock.noted → view.now ≡ closed.now → IsTraceOf history traced view.trace → view.log ≡ logged
+      → IsViewOf start history traced logged view
+  view_left traced logged view taken clock now trace logs = record {
+    legal = legal;
+    count = taken.count ∙ count;
+    fiber = λ place state seen is there. by_place view.fibers.items taken place state seen is there (slice_get_cases closed.bodies.items place).1;
+    clock = clock ∙ carry (λ o hs. closed.clock.noted ≡ visible (log hs 0)) left.left.clock.fitting.noted;
+    time = now ∙ left.left.now;
+    traces = trace;
+    logs = logs;
+  }

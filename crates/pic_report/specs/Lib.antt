@@ -1,0 +1,7 @@
+pub mod EntryText
+pub mod Report
+pub mod View
+pub mod Output
+pub mod Refusals
+pub mod Lines
+pub mod Taken

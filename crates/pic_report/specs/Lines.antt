@@ -1,0 +1,36 @@
+-- Words for the calls that write a report. Only their own contracts cite them.
+use Rattle.std.specs.Prelude.{◌≡◌, ℕ, ◌<◌, ◌-◌, Option, Some, None, List, length, slice_get, slice_index_or, slice_set}
+use Rattle.pic_machine.specs.declared.entry.Call.{Call}
+use Rattle.pic_machine.specs.declared.entry.Call.TheVariants.{End}
+use Rattle.pic_machine.specs.declared.entry.Entry.{Entry}
+use Rattle.pic_machine.specs.declared.state.Completion.{Completion}
+use Rattle.pic_machine.specs.declared.state.FiberState.{FiberState}
+use Rattle.pic_machine.specs.declared.state.FiberState.TheVariants.{Live, Ended}
+use Rattle.pic_machine.specs.Completing.{completion, first_of}
+
+-- how a fiber stands whose last call is this
+abbrev pub ended_in : Call → FiberState
+ended_in (End outcome) = Ended outcome
+ended_in _ = Live
+
+-- how a fiber stands whose entries these are
+abbrev pub fate_of : Option Entry → FiberState
+fate_of None = Live
+fate_of (Some last) = ended_in last.call
+
+abbrev pub fate : List Entry → FiberState
+fate es = fate_of (slice_get es (length es - 1))
+
+-- the list with the completion at the place, if none is there yet
+abbrev pub noted_if : List (Option Completion) → ℕ → Completion → Option Completion → List (Option Completion)
+noted_if found place completed None = slice_set found place (Some completed)
+noted_if found place completed (Some first) = found
+
+abbrev pub noted : List (Option Completion) → ℕ → Completion → List (Option Completion)
+noted found place completed = noted_if found place completed (slice_index_or found place None)
+
+-- the completions that were found, and those that the entries tell of computations of which none was
+pub record IsNoted (old new : List (Option Completion)) (es : List Entry) : Type 0 where
+  pub size : length new ≡ length old
+  pub each : (c : ℕ) → c < length old
+      → slice_index_or new c None ≡ first_of (slice_index_or old c None) (completion es c)

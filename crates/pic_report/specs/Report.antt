@@ -1,0 +1,151 @@
+-- The text of a report.
+use Rattle.std.proofs.Common.{zero, suc}
+use Rattle.std.specs.Prelude.{ℕ, ◌+◌, Bool, true, false, Option, Some, None, List, [], ◌∷◌, ◌++◌, codes, decimal, slice_index_or, slice_get, map}
+use Rattle.std.specs.List.{flat_map}
+use Rattle.pic_base.specs.declared.outcome.Outcome.TheVariants.{Cancelled}
+use Rattle.pic_base.specs.Outcome.{outcome_text}
+use Rattle.pic_machine.specs.declared.birth.Birth.{Birth}
+use Rattle.pic_machine.specs.declared.entry.Call.{Call}
+use Rattle.pic_machine.specs.declared.entry.Call.TheVariants.{Say}
+use Rattle.pic_machine.specs.declared.entry.Entry.{Entry}
+use Rattle.pic_machine.specs.declared.entry.Happened.{Happened}
+use Rattle.pic_machine.specs.declared.state.CompState.{CompState}
+use Rattle.pic_machine.specs.declared.state.CompState.TheVariants.{Running, Done}
+use Rattle.pic_machine.specs.declared.state.Completion.{Completion}
+use Rattle.pic_machine.specs.declared.state.FiberState.{FiberState}
+use Rattle.pic_machine.specs.declared.state.FiberState.TheVariants.{Live, Ended}
+use Rattle.pic_machine.specs.declared.world.Start.{Start}
+use Rattle.pic_machine.specs.State.{State}
+use Rattle.pic_machine.specs.Completing.{completion}
+use Rattle.pic_machine.specs.History.{birth_in, origin_of, world}
+use Rattle.pic_machine.specs.Log.{entries, log, visible}
+use Rattle.script_tree.specs.declared.program.Decl.{Decl}
+use Rattle.script_tree.specs.declared.program.Text.{Text}
+use Rattle.script_tree.specs.Tree.{Tree}
+use Rattle.pic_report.specs.EntryText.{entry_text, text_name}
+
+-- ---- names
+
+-- the names of the script's texts, in order
+abbrev pub text_names : Tree → List (List ℕ)
+text_names script = map (λ (t : Text). t.name) script.texts
+
+-- the names of the declared computations, in order
+abbrev pub declared_names : Tree → List (List ℕ)
+declared_names script = map (λ (d : Decl). d.name) script.decls
+
+-- the name of the text that a fiber of this birth runs
+abbrev pub name_of_birth : List (List ℕ) → Option Birth → List ℕ
+name_of_birth names None = codes "-"
+name_of_birth names (Some birth) = text_name names birth.text
+
+-- the root, or the name that the script declares
+abbrev pub comp_name : List (List ℕ) → ℕ → List ℕ
+comp_name names zero = codes "root"
+comp_name names (suc k) = slice_index_or names k (codes "-")
+
+-- ---- the trace
+
+-- the fiber, and the text of its entry
+abbrev pub trace_line : List (List ℕ) → Entry → List ℕ
+trace_line names e =
+    codes "trace " ++ (decimal e.fiber ++ (codes " " ++ (entry_text names e.call e.reply ++ codes "\n")))
+
+-- a line for each entry, in order, where they are asked for
+abbrev pub trace_lines : List (List ℕ) → Bool → List Entry → List (List ℕ)
+trace_lines names false es = []
+trace_lines names true es = map (trace_line names) es
+
+-- ---- fibers
+
+-- how the fiber stands: in a final world it has ended
+abbrev pub fiber_state_text : FiberState → List ℕ
+fiber_state_text Live = codes "live"
+fiber_state_text (Ended outcome) = outcome_text outcome
+
+-- the fiber's number, the name of its text and how it stands
+abbrev pub fiber_line : List ℕ → ℕ → FiberState → List ℕ
+fiber_line name f state = codes "fiber " ++ (decimal f
+    ++ (codes " " ++ (name ++ (codes " " ++ (fiber_state_text state ++ codes "\n")))))
+
+abbrev pub said_line : ℕ → List ℕ
+said_line value = codes "  say " ++ (decimal value ++ codes "\n")
+
+abbrev pub said_lines : Call → List (List ℕ)
+said_lines (Say value) = said_line value ∷ []
+said_lines _ = []
+
+-- a line for each value that is said by these entries, in order
+abbrev pub says_of : List Entry → List (List ℕ)
+says_of es = flat_map (λ e. said_lines e.call) es
+
+-- the text of an entry
+abbrev pub log_line : List (List ℕ) → Entry → List ℕ
+log_line names e = codes "  log " ++ (entry_text names e.call e.reply ++ codes "\n")
+
+-- a line for each entry, in order, where they are asked for
+abbrev pub log_lines : List (List ℕ) → Bool → List Entry → List (List ℕ)
+log_lines names false es = []
+log_lines names true es = map (log_line names) es
+
+-- a fiber's line, what it said, and what it did
+abbrev pub fiber_lines : List (List ℕ) → Bool → List ℕ → ℕ → FiberState → List Entry → List (List ℕ)
+fiber_lines names log name f state es = fiber_line name f state ∷ (says_of es ++ log_lines names log es)
+
+-- the lines of the fibers from number f on, which stand so
+abbrev pub fibers_lines : Tree → Start → List Happened → Bool → ℕ → List FiberState → List (List ℕ)
+fibers_lines script start hs with_log f [] = []
+fibers_lines script start hs with_log f (state ∷ states) =
+    fiber_lines (text_names script) with_log (name_of_birth (text_names script) (birth_in (origin_of start) hs f)) f state (visible (log hs f))
+    ++ fibers_lines script start hs with_log (f + 1) states
+
+-- ---- computations
+
+-- the fiber whose call completed the computation
+abbrev pub completer : Option Completion → ℕ
+completer None = 0
+completer (Some completed) = completed.fiber
+
+-- how the computation stands, and which fiber completed it, to the line's end
+abbrev pub comp_state_text : Option Completion → CompState → List ℕ
+comp_state_text by Running = codes "running\n"
+comp_state_text by (Done outcome) =
+    outcome_text outcome ++ (codes " by " ++ (decimal (completer by) ++ codes "\n"))
+
+abbrev pub comp_line : List (List ℕ) → ℕ → Option Completion → CompState → List ℕ
+comp_line names c by state = codes "comp " ++ (decimal c ++ (codes " "
+    ++ (comp_name names c ++ (codes " " ++ comp_state_text by state))))
+
+-- the lines of the computations from number c on, which stand so, after these entries
+abbrev pub comps_lines : List (List ℕ) → List Entry → ℕ → List CompState → List (List ℕ)
+comps_lines names es c [] = []
+comps_lines names es c (state ∷ states) =
+    comp_line names c (completion es c) state ∷ comps_lines names es (c + 1) states
+
+-- ---- the whole
+
+abbrev pub clock_line : ℕ → List ℕ
+clock_line now = codes "clock " ++ (decimal now ++ codes "\n")
+
+-- how main ended
+abbrev pub run_line : Option FiberState → List ℕ
+run_line (Some (Ended (Cancelled code))) = codes "run raised " ++ (decimal code ++ codes "\n")
+run_line _ = codes "run done\n"
+
+-- the lines of a report of this world, to which this history of the script led from the start
+abbrev pub report_lines : Tree → Start → List Happened → Bool → Bool → State → List (List ℕ)
+report_lines script start hs trace with_log w = codes "picos report 1\n"
+    ∷ (trace_lines (text_names script) trace (entries hs)
+    ++ (fibers_lines script start hs with_log 1 w.fibers
+    ++ (comps_lines (declared_names script) (entries hs) 0 w.comps
+    ++ (clock_line 0 ∷ (run_line (slice_get w.fibers 0) ∷ [])))))
+
+-- the text of lines
+abbrev pub joined : List (List ℕ) → List ℕ
+joined lines = flat_map (λ line. line) lines
+
+-- the report of a history of the script from the start, with its trace and the fibers' logs where they
+-- are asked for
+abbrev pub report : Tree → Start → List Happened → Bool → Bool → List ℕ
+report script start hs trace with_log =
+    joined (report_lines script start hs trace with_log (world (origin_of start) hs))

@@ -1,0 +1,126 @@
+//! The texts of entries that no script of ours leaves behind, and a sink that fails.
+ghost use Rattle.std.specs.Prelude.{◌<◌};
+
+use super::*;
+use pic_base::Outcome;
+use pic_io::MemSink;
+use pic_machine::{Call, CompleteReply, Entry, FiberState, Reply};
+use script_tree::parse;
+use std::alloc::Global;
+use std::test::Fail;
+
+/// A script with a computation and two texts.
+const SCRIPT: &[u8] = b"picos 1\ncomp a\nfiber f\nend\nmain\nend\n";
+
+fn entry(fiber: u32, call: Call, reply: Reply) -> Entry {
+    Entry { fiber, call, reply }
+}
+
+/// A run of two fibers in which each kind of entry stands.
+fn view(alloc: Global, log: bool) -> Result<RunView, Fail> {
+    let five = Outcome::Returned(5);
+    let six = Outcome::Cancelled(6);
+    let complete = Call::Complete {
+        comp: 1,
+        outcome: five,
+    };
+    let fork = Call::Fork { text: 0, value: 7 };
+    let lost = Reply::Completed(CompleteReply::Lost(six));
+    let mut main = Vec::new(alloc);
+    main.push(entry(1, Call::Peek(1), Reply::Peeked(None)))?;
+    main.push(entry(1, fork, Reply::Made(2)))?;
+    main.push(entry(1, fork, Reply::Full))?;
+    main.push(entry(1, Call::Yield, Reply::Plain))?;
+    main.push(entry(1, complete, lost))?;
+    main.push(entry(1, Call::Peek(1), Reply::Peeked(Some(six))))?;
+    main.push(entry(1, Call::End(five), Reply::Plain))?;
+    let cancel = Call::Complete {
+        comp: 1,
+        outcome: six,
+    };
+    let won = Reply::Completed(CompleteReply::Won);
+    let mut child = Vec::new(alloc);
+    child.push(entry(2, Call::Say(7), Reply::Plain))?;
+    child.push(entry(2, cancel, won))?;
+    child.push(entry(2, Call::End(six), Reply::Plain))?;
+    let mut trace = Vec::new(alloc);
+    trace.push(entry(1, Call::Turn, Reply::Plain))?;
+    trace.push(entry(2, Call::Say(7), Reply::Plain))?;
+    let mut fibers = Vec::new(alloc);
+    fibers.push(FiberView {
+        text: 1,
+        state: FiberState::Ended(five),
+        entries: main,
+    })?;
+    fibers.push(FiberView {
+        text: 0,
+        state: FiberState::Ended(six),
+        entries: child,
+    })?;
+    Ok(RunView {
+        fibers,
+        clock_entries: Vec::new(alloc),
+        now: 0,
+        trace: if log { Some(trace) } else { None },
+        log,
+    })
+}
+
+/// The report of the view with its trace and logs.
+const WHOLE: &[u8] =
+    b"picos report 1\ntrace 1 turn\ntrace 2 say 7\nfiber 1 main returned 5\n  log peek c1 running\n  log fork 2 f 7\n  log fork full f 7\n  log yield\n  log complete c1 returned 5 lost cancelled 6\n  log peek c1 cancelled 6\n  log end returned 5\nfiber 2 f cancelled 6\n  say 7\n  log say 7\n  log complete c1 cancelled 6 won\n  log end cancelled 6\ncomp 0 root running\ncomp 1 a cancelled 6 by 2\nclock 0\nrun done\n";
+
+/// The report of the same view without them.
+const SHORT: &[u8] =
+    b"picos report 1\nfiber 1 main returned 5\nfiber 2 f cancelled 6\n  say 7\ncomp 0 root running\ncomp 1 a cancelled 6 by 2\nclock 0\nrun done\n";
+
+/// What a sink holds after the report, if it takes so many bytes a call and fails at this call (none at
+/// 0), and whether the report was written whole.
+fn put_to(alloc: Global, log: bool, most: usize, failing: u64) -> Result<(bool, Vec<u8>), Fail>
+    requires { 0 < most }
+{
+    let mut calls = Vec::new(alloc);
+    calls.push(failing)?;
+    let mut out = MemSink {
+        bytes: Vec::new(alloc),
+        failing: calls,
+        most,
+        calls: 0,
+        failed: 0,
+    };
+    let Ok(program) = parse(alloc, SCRIPT) else {
+        return Ok((false, out.bytes));
+    };
+    let view = view(alloc, log)?;
+    let written = write_report(alloc, &program, &view, &mut out);
+    Ok((written.is_ok(), out.bytes))
+}
+
+#[test]
+fn texts(rt: HostRuntime) -> Result<(), Fail> {
+    let (whole, taken) = put_to(rt.alloc(), true, usize::MAX, 0)?;
+    assert!(rt; whole);
+    assert_eq!(rt; taken.as_slice(), WHOLE);
+    let (whole, taken) = put_to(rt.alloc(), false, usize::MAX, 0)?;
+    assert!(rt; whole);
+    assert_eq!(rt; taken.as_slice(), SHORT);
+    Ok(())
+}
+
+#[test]
+fn a_sink_fails(rt: HostRuntime) -> Result<(), Fail> {
+    // Each line is one piece.
+    let (whole, taken) = put_to(rt.alloc(), true, usize::MAX, 4)?;
+    assert!(rt; !whole);
+    assert_eq!(rt;
+        taken.as_slice(),
+        b"picos report 1\ntrace 1 turn\ntrace 2 say 7\n".as_slice()
+    );
+
+    // A sink that takes two bytes a call, and at last fails within a line: eight calls take the first
+    // one, whose last byte comes alone.
+    let (whole, taken) = put_to(rt.alloc(), true, 2, 12)?;
+    assert!(rt; !whole);
+    assert_eq!(rt; taken.as_slice(), b"picos report 1\ntrace ".as_slice());
+    Ok(())
+}

@@ -1,0 +1,105 @@
+//! What of a run a report is made from.
+ghost use Rattle.std.specs.Prelude.{◌≡◌, ◌+◌, Bool, List, ℕ, length, slice_get, IfOk};
+ghost use Rattle.pic_machine.specs.declared.entry.Happened.{Happened};
+ghost use Rattle.pic_machine.specs.declared.world.Start.{Start};
+ghost use Rattle.script_tree.specs.Tree.{Tree};
+ghost use Rattle.pic_report.specs.Lines.{ended_in, fate};
+ghost use Rattle.pic_report.specs.Report.{report};
+ghost use Rattle.pic_report.specs.View.{IsLeftOf, IsTraceOf, IsViewOf, view_text};
+ghost use Rattle.pic_report.specs.Taken.{IsTakenFrom, AreTakenFrom};
+
+use fiber_body::Body;
+use pic_base::Memory;
+use pic_machine::{Call, Closed, Entry, FiberState};
+use std::alloc::Global;
+
+/// What a report tells of a fiber: the text that it runs, a place among the program's texts, how it
+/// stands, and its visible entries.
+#[derive(Drop)]
+pub struct FiberView {
+    pub text: u32,
+    pub state: FiberState,
+    pub entries: Vec<Entry>,
+}
+
+/// What a report tells of a run: the fibers in order from 1, the clock's entries and the time that it
+/// shows; each entry of the run, where the report is to have the trace; and whether it is to have what
+/// each fiber did.
+#[derive(Drop)]
+pub struct RunView {
+    pub fibers: Vec<FiberView>,
+    pub clock_entries: Vec<Entry>,
+    pub now: u32,
+    pub trace: Option<Vec<Entry>>,
+    pub log: bool,
+}
+
+/// What a report tells of a run, of which this is left.
+pub fn view_of(
+    alloc: Global,
+    closed: Closed<Body>,
+    trace: Option<Vec<Entry>>,
+    log: bool,
+) -> Result<RunView, Memory>
+    ensures view { IfOk result (λ view. (start : Start) (history : List Happened) (traced : Bool)
+        → IsLeftOf start history closed → IsTraceOf history traced trace
+        → IsViewOf start history traced log view) }
+    // So the view's text is the history's report.
+    ensures text { IfOk result (λ view. (script : Tree) (start : Start) (history : List Happened) (traced : Bool)
+        → start.comps ≡ length script.decls + 1
+        → IsLeftOf start history closed → IsTraceOf history traced trace
+        → view_text script view ≡ report script start history traced log) }
+{
+    let Closed { bodies, clock, now } = closed;
+    Ok(RunView {
+        fibers: views_of(alloc, bodies)?,
+        clock_entries: clock.into_entries(),
+        now,
+        trace,
+        log,
+    })
+}
+
+/// What is told of each fiber, in order.
+fn views_of(alloc: Global, bodies: Vec<Body>) -> Result<Vec<FiberView>, Memory>
+    ensures { IfOk result (λ views. AreTakenFrom bodies.items views.items) }
+{
+    let mut views = Vec::new(alloc);
+    for body in bodies {
+        views.push(fiber_view(body))?;
+    }
+    Ok(views)
+}
+
+/// What is told of the fiber that had this body.
+fn fiber_view(body: Body) -> FiberView
+    ensures { IsTakenFrom body result }
+{
+    let text = body.text();
+    let entries = body.into_entries();
+    FiberView {
+        text,
+        state: fate(entries.as_slice()),
+        entries,
+    }
+}
+
+/// How a fiber stands that did this: its end is the last that it does.
+fn fate(entries: &[Entry]) -> FiberState
+    ensures { result ≡ fate entries.now }
+{
+    match entries.last().copied() {
+        Some(entry) => ended_in(entry.call),
+        None => FiberState::Live,
+    }
+}
+
+/// How a fiber stands whose last call is this.
+fn ended_in(call: Call) -> FiberState
+    ensures { result ≡ ended_in call }
+{
+    match call {
+        Call::End(outcome) => FiberState::Ended(outcome),
+        _ => FiberState::Live,
+    }
+}

@@ -1,7 +1,7 @@
 -- A body to which nothing has happened stands at the beginning of its text.
 use Rattle.std.proofs.Common.{◌≡◌, ℕ, Option, None, List, [], sym, ap, subst, ◌∙◌, append-nil}
 use Rattle.pic_machine.specs.declared.birth.Birth.{Birth}
-use Rattle.pic_machine.specs.declared.entry.Happened.{Happened}
+use Rattle.pic_machine.specs.Happened.{Happened}
 use Rattle.script_tree.specs.Tree.{Tree}
 use Rattle.script_tree.specs.declared.program.Stmt.{Stmt}
 use Rattle.fiber_body.specs.declared.standing.Frame.{Frame}

@@ -1,6 +1,6 @@
 -- What is to come of a text from where its fiber stands: the rest of a block, and then what is around it.
 use Rattle.std.specs.Prelude.{◌≡◌, ℕ, List, [], ◌∷◌, ◌++◌, drop}
-use Rattle.pic_machine.specs.declared.entry.Happened.{Happened}
+use Rattle.pic_machine.specs.Happened.{Happened}
 use Rattle.script_tree.specs.declared.program.Stmt.{Stmt}
 use Rattle.fiber_body.specs.declared.standing.Frame.{Frame}
 use Rattle.fiber_body.specs.declared.standing.Frame.TheVariants.{Rest, Again, Catch}

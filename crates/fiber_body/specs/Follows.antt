@@ -6,7 +6,7 @@ use Rattle.pic_base.specs.declared.outcome.Outcome.TheVariants.{Returned, Cancel
 use Rattle.pic_machine.specs.declared.birth.Birth.{Birth}
 use Rattle.pic_machine.specs.declared.entry.Call.TheVariants as call
 use Rattle.pic_machine.specs.declared.entry.Reply.TheVariants.{Plain}
-use Rattle.pic_machine.specs.declared.entry.Happened.{Happened}
+use Rattle.pic_machine.specs.Happened.{Happened}
 use Rattle.pic_machine.specs.History.{event}
 use Rattle.script_tree.specs.declared.program.Operand.TheVariants.{Reg}
 use Rattle.script_tree.specs.Tree.{Tree}

@@ -7,7 +7,7 @@ use Rattle.pic_machine.specs.declared.entry.Call.TheVariants as call
 use Rattle.pic_machine.specs.declared.entry.CompleteReply.{CompleteReply}
 use Rattle.pic_machine.specs.declared.entry.CompleteReply.TheVariants.{Won, Lost}
 use Rattle.pic_machine.specs.declared.entry.Reply.TheVariants.{Plain, Full, Completed, Peeked}
-use Rattle.pic_machine.specs.declared.entry.Happened.{Happened}
+use Rattle.pic_machine.specs.Happened.{Happened}
 use Rattle.pic_machine.specs.History.{event, forked}
 use Rattle.script_tree.specs.declared.program.Operand.{Operand}
 use Rattle.script_tree.specs.declared.program.Operand.TheVariants.{Reg, Num}

@@ -15,9 +15,15 @@ use std::marker::Model;
 use std::sync::Arc;
 
 /// A fiber's body: all that a fiber is between two entries. Contracts see it as the `Shown` of
-/// `specs/Shown.antt`.
+/// `specs/Shown.antt`. It has a block of memory of its own, so to move it costs no more than a pointer.
 #[derive(Drop)]
 pub struct Body {
+    pub(crate) content: Box<Content>,
+}
+
+/// What the block of a body has.
+#[derive(Drop)]
+pub(crate) struct Content {
     program: Option<Arc<Program>>,
     pub(crate) birth: Birth,
     pub(crate) number: Option<FiberNo>,
@@ -38,22 +44,22 @@ impl Model for Body {
     ghost Value = { Shown };
 
     ghost view = { λ body. record {
-      program = option_map arc_value body.program;
-      birth = body.birth;
-      number = body.number;
-      registers = body.registers;
-      cells = body.cells;
-      steps = body.steps;
-      standing = body.standing;
-      frames = reverse body.frames.items;
-      noted = body.noted.items;
-      room = vec_capacity body.noted - vec_len body.noted;
+      program = option_map arc_value body.content.value.program;
+      birth = body.content.value.birth;
+      number = body.content.value.number;
+      registers = body.content.value.registers;
+      cells = body.content.value.cells;
+      steps = body.content.value.steps;
+      standing = body.content.value.standing;
+      frames = reverse body.content.value.frames.items;
+      noted = body.content.value.noted.items;
+      room = vec_capacity body.content.value.noted - vec_len body.content.value.noted;
     } };
 
     ghost use Rattle.std.specs.List.{AllByRecursion};
     ghost use Rattle.fiber_body.specs.Shown.{IsFrame};
 
-    ghost invariant = { λ body. AllByRecursion IsFrame body.frames.items };
+    ghost invariant = { λ body. AllByRecursion IsFrame body.content.value.frames.items };
 }
 
 impl Body {
@@ -77,12 +83,12 @@ impl Body {
             value,
             current,
         };
-        Ok(Body::unused(alloc, program, birth, block))
+        Body::unused(alloc, program, birth, block)
     }
 
     /// The body of the clock, which runs no text. It has no number yet.
-    pub fn clock(alloc: Global) -> Body
-        ensures { IsNew result None (record { text = 0; value = 0; current = 0 }) }
+    pub fn clock(alloc: Global) -> Result<Body, Memory>
+        ensures { IfOk result (λ body. IsNew body None (record { text = 0; value = 0; current = 0 })) }
     {
         let birth = Birth {
             text: 0,
@@ -92,13 +98,18 @@ impl Body {
         Body::unused(alloc, None, birth, 0)
     }
 
-    fn unused(alloc: Global, program: Option<Arc<Program>>, birth: Birth, block: u32) -> Body
+    fn unused(
+        alloc: Global,
+        program: Option<Arc<Program>>,
+        birth: Birth,
+        block: u32,
+    ) -> Result<Body, Memory>
         requires { block ≡ block_in (option_map arc_value program) birth.text }
-        ensures { IsNew result (option_map arc_value program) birth }
+        ensures { IfOk result (λ body. IsNew body (option_map arc_value program) birth) }
     {
         let mut registers = [0; 16];
         registers[0] = birth.value;
-        Body {
+        let content = Content {
             program,
             birth,
             number: None,
@@ -108,28 +119,31 @@ impl Body {
             standing: Standing::At { block, place: 0 },
             frames: Vec::new(alloc),
             noted: Vec::new(alloc),
-        }
+        };
+        Ok(Body {
+            content: Box::new(alloc, content)?,
+        })
     }
 
     /// The text that it runs, a place among the program's texts.
     pub fn text(&self) -> u32
         ensures { result ≡ self.now.birth.text }
     {
-        self.birth.text
+        self.content.birth.text
     }
 
     /// The current computation.
     pub fn current(&self) -> CompNo
         ensures { result ≡ self.now.birth.current }
     {
-        self.birth.current
+        self.content.birth.current
     }
 
     /// The visible entries of its fiber so far.
     pub fn entries(&self) -> &[Entry]
         ensures { result.now ≡ self.now.noted }
     {
-        self.noted.as_slice()
+        self.content.noted.as_slice()
     }
 
     /// The value of the register with this number.
@@ -137,7 +151,7 @@ impl Body {
         requires { place < 16 }
         ensures { result ≡ slice_index self.now.registers place }
     {
-        self.registers[place as usize]
+        self.content.registers[place as usize]
     }
 
     /// Puts the value into the register with this number.
@@ -145,7 +159,7 @@ impl Body {
         requires { place < 16 }
         ensures { self.new ≡ record self.old { registers = slice_set self.old.registers place value } }
     {
-        self.registers[place as usize] = value;
+        self.content.registers[place as usize] = value;
     }
 
     /// The value under the key with this number.
@@ -153,7 +167,7 @@ impl Body {
         requires { place < 16 }
         ensures { result ≡ slice_index self.now.cells place }
     {
-        self.cells[place as usize]
+        self.content.cells[place as usize]
     }
 
     /// Puts the value under the key with this number.
@@ -161,35 +175,35 @@ impl Body {
         requires { place < 16 }
         ensures { self.new ≡ record self.old { cells = slice_set self.old.cells place value } }
     {
-        self.cells[place as usize] = value;
+        self.content.cells[place as usize] = value;
     }
 
     /// How many steps it has left.
     pub fn steps(&self) -> u32
         ensures { result ≡ self.now.steps }
     {
-        self.steps
+        self.content.steps
     }
 
     /// Leaves it so many steps.
     pub fn set_steps(&mut self, steps: u32)
         ensures { self.new ≡ record self.old { steps = steps } }
     {
-        self.steps = steps;
+        self.content.steps = steps;
     }
 
     /// Where it stands in its text.
     pub fn standing(&self) -> Standing
         ensures { result ≡ self.now.standing }
     {
-        self.standing
+        self.content.standing
     }
 
     /// Lets it stand there from now on.
     pub fn set_standing(&mut self, standing: Standing)
         ensures { self.new ≡ record self.old { standing = standing } }
     {
-        self.standing = standing;
+        self.content.standing = standing;
     }
 
     /// Puts a frame around the block in which it is to stand.
@@ -198,7 +212,7 @@ impl Body {
         ensures pushed { OnOk result (self.new ≡ record self.old { frames = frame ∷ self.old.frames }) }
         ensures kept { OnErr result (self.new ≡ self.old) }
     {
-        self.frames.push(frame)?;
+        self.content.frames.push(frame)?;
         Ok(())
     }
 
@@ -206,7 +220,7 @@ impl Body {
     pub fn innermost(&self) -> Option<Frame>
         ensures { result ≡ slice_get self.now.frames 0 }
     {
-        self.frames.last().copied()
+        self.content.frames.last().copied()
     }
 
     /// Takes the innermost frame away, if anything is around the block in which it stands.
@@ -214,6 +228,6 @@ impl Body {
         ensures popped { IsPopped self.old self.new result }
         ensures frame { IfSome result IsFrame }
     {
-        self.frames.pop()
+        self.content.frames.pop()
     }
 }

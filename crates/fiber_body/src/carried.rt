@@ -19,27 +19,27 @@ impl Carried for Body {
     ghost fits = { Fits };
 
     fn birth(&self) -> Birth {
-        self.birth
+        self.content.birth
     }
 
     fn fiber(&self) -> FiberNo {
-        match self.number {
+        match self.content.number {
             Some(fiber) => fiber,
             None => unreachable!("the body has a number"),
         }
     }
 
     fn number(&mut self, fiber: FiberNo) {
-        self.number = Some(fiber);
+        self.content.number = Some(fiber);
     }
 
     fn reserve(&mut self) -> Result<(), Memory> {
-        self.noted.reserve(1)?;
+        self.content.noted.reserve(1)?;
         Ok(())
     }
 
     fn note(&mut self, entry: Entry) {
-        self.noted.push_reserved(entry);
+        self.content.noted.push_reserved(entry);
     }
 
     ghost shows = { λ body log fits. fits.noted };

@@ -9,6 +9,6 @@ impl Body {
     pub fn into_entries(self) -> Vec<Entry>
         ensures { result.items ≡ self.noted }
     {
-        self.noted
+        Box::into_inner(self.content).noted
     }
 }

@@ -1,5 +1,5 @@
 //! The numbers of the things that a program declares.
-ghost use Rattle.std.specs.Prelude.{◌≡◌};
+ghost use Rattle.std.specs.Prelude.{◌≡◌, None};
 ghost use Rattle.fiber_body.specs.Meaning.{comp_number};
 ghost use Rattle.fiber_body.specs.Numbers.{IsDeclared};
 
@@ -9,7 +9,8 @@ use script_tree::{CompRef, Program};
 /// The number of a computation: the root, then the declared ones in order. None where no such one is
 /// declared, and where nothing stands in a promise register.
 pub fn number_of(program: &Program, comp: CompRef) -> Option<CompNo>
-    ensures { IsDeclared program.now comp → result ≡ comp_number comp }
+    ensures number { IsDeclared program.now comp → result ≡ comp_number comp }
+    ensures none { (IsDeclared program.now comp → ⊥) → result ≡ None }
 {
     match comp {
         CompRef::Root => Some(0),

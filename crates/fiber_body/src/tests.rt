@@ -45,7 +45,7 @@ fn a_body_begins_at_its_texts_first_statement(rt: HostRuntime) -> Result<(), Fai
 
 #[test]
 fn a_body_keeps_what_it_is_told(rt: HostRuntime) -> Result<(), Fail> {
-    let mut body = Body::clock(rt.alloc());
+    let mut body = Body::clock(rt.alloc())?;
     body.number(0);
     body.reserve()?;
     let entry = Entry {
@@ -71,7 +71,7 @@ fn a_body_keeps_what_it_is_told(rt: HostRuntime) -> Result<(), Fail> {
 
 #[test]
 fn the_innermost_frame_is_taken_away_first(rt: HostRuntime) -> Result<(), Fail> {
-    let mut body = Body::clock(rt.alloc());
+    let mut body = Body::clock(rt.alloc())?;
     assert_eq!(rt; body.pop_frame(), None);
     let rest = Frame::Rest { block: 0, place: 3 };
     let catch = Frame::Catch {

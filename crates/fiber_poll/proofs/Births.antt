@@ -5,7 +5,7 @@ use Rattle.pic_machine.specs.declared.entry.Call.{Call}
 use Rattle.pic_machine.specs.declared.entry.Call.TheVariants.{Turn, Yield, Complete, Peek, Fork, Say, End}
 use Rattle.pic_machine.specs.declared.entry.Reply.{Reply}
 use Rattle.pic_machine.specs.declared.entry.Reply.TheVariants.{Plain, Full, Made, Completed, Peeked}
-use Rattle.pic_machine.specs.declared.entry.Happened.{Happened}
+use Rattle.pic_machine.specs.Happened.{Happened}
 use Rattle.pic_machine.specs.State.{State}
 use Rattle.pic_machine.specs.History.{BirthFits, IsLegal, Origin, birth_among, birth_at, birth_in, made_birth, or_later, world}
 use Rattle.pic_machine.proofs.Comps.{comps_stay}

@@ -1,6 +1,6 @@
 -- The block that a test has chosen.
 use Rattle.std.proofs.Common.{◌≡◌, ℕ, Bool, cond, true, false, Option, Some, List, sym, subst}
-use Rattle.pic_machine.specs.declared.entry.Happened.{Happened}
+use Rattle.pic_machine.specs.Happened.{Happened}
 use Rattle.script_tree.specs.declared.program.Operand.{Operand}
 use Rattle.script_tree.specs.declared.program.Stmt.{Stmt}
 use Rattle.script_tree.specs.declared.program.Stmt.TheVariants as stmt

@@ -1,7 +1,7 @@
 -- No text of a well-formed program ends by a break.
 use Rattle.std.proofs.Common.{◌≡◌, ◌≢◌, ℕ, zero, suc, true, false, Option, Some, None, List, [], ◌∷◌, length, slice_get, refl, sym, subst}
 use Rattle.std.specs.List.{AllByRecursion}
-use Rattle.pic_machine.specs.declared.entry.Happened.{Happened}
+use Rattle.pic_machine.specs.Happened.{Happened}
 use Rattle.script_tree.specs.declared.level.Level.{Level}
 use Rattle.script_tree.specs.declared.opener.Opener.TheVariants as opener
 use Rattle.script_tree.specs.declared.program.Stmt.{Stmt}

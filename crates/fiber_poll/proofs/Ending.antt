@@ -4,7 +4,7 @@ use Rattle.pic_base.specs.declared.outcome.Outcome.{Outcome}
 use Rattle.pic_machine.specs.declared.entry.Call.TheVariants as call
 use Rattle.pic_machine.specs.declared.entry.Entry.{Entry}
 use Rattle.pic_machine.specs.declared.entry.Reply.TheVariants.{Plain}
-use Rattle.pic_machine.specs.declared.entry.Happened.{Happened}
+use Rattle.pic_machine.specs.Happened.{Happened}
 use Rattle.pic_machine.specs.declared.poller.Turn.{Turn}
 use Rattle.pic_machine.specs.declared.poller.Turn.TheVariants as turn
 use Rattle.pic_machine.specs.declared.port.PortFault.{PortFault}

@@ -1,8 +1,8 @@
 -- How a turn goes on, call by call: what each call leaves is told by where its log leads.
-use Rattle.std.proofs.Common.{◌≡◌, ◌≢◌, ℕ, ◌+◌, ◌<◌, false, Option, Some, List, [], ◌∷◌, ◌++◌, slice_get, refl, sym, ap, subst, ◌∙◌, append-nil}
+use Rattle.std.proofs.Common.{◌≡◌, ◌≢◌, ℕ, ◌+◌, ◌<◌, false, Option, Some, List, [], ◌∷◌, ◌++◌, slice_get, refl, sym, ap, subst, ◌∙◌, append-nil, arith}
 use Rattle.pic_base.specs.declared.duty.Duty.{Duty}
 use Rattle.pic_machine.specs.declared.entry.Call.{Call}
-use Rattle.pic_machine.specs.declared.entry.Happened.{Happened}
+use Rattle.pic_machine.specs.Happened.{Happened}
 use Rattle.pic_machine.specs.declared.port.PortFault.{PortFault}
 use Rattle.pic_machine.specs.declared.port.PortFault.TheVariants.{Full, Again, Memory}
 use Rattle.pic_machine.specs.State.{owed_of}
@@ -24,7 +24,7 @@ use Rattle.fiber_body.specs.Shown.{IsSameRest, Shown, carry_of, context_at}
 use Rattle.fiber_body.specs.Fits.{Fits, Leads, blocks_of}
 use Rattle.fiber_body.specs.Laws.{fits_same}
 use Rattle.fiber_poll.specs.declared.spot.Spot.{Spot}
-use Rattle.fiber_poll.specs.Moving.{Moves, Settles, spent_step}
+use Rattle.fiber_poll.specs.Moving.{Goes, Moves, Settles, spent_step}
 use Rattle.fiber_poll.specs.UnderWay.{GaveUp, IsBefore, IsOn, IsUp}
 use Rattle.fiber_poll.proofs.Leading.{begun_is, can_begin, leads_on, leads_out, leads_up, up_led}
 
@@ -191,14 +191,17 @@ module _ (p q : Sight (Option Tree)) (a d : Shown) (before now : Option (List �
       (leads_out a (spent_step b) f spot (log p.front f) (h ∷ []) s (raised code) stands.here (can_begin s (context_at a) stands.costs stands.steps) lent.share lent.birth frames (λ q. cc)
       (subst (λ (c : Context). Does (blocks_of a) f s c (h ∷ []) (raised code) (context_at (spent_step b))) (sym (begun_is s (context_at a) stands.costs)) does) (leads_up p a up)))
 
--- the body moved on without a call
-pub on_moved : (p : Sight (Option Tree)) (a b : Shown) (told : Option (List ℕ)) → IsUp p a → Moves a b → IsOn p p a b told told
-on_moved p a b told up moves =
+-- the body went on without a call
+pub on_gone : (p : Sight (Option Tree)) (a b : Shown) (told : Option (List ℕ)) → IsUp p a → Goes a b → IsOn p p a b told told
+on_gone p a b told up goes =
     let notes : Notes (carry_of a) (carry_of b) [] = record {
-      birth = ap (λ (c : Carry (Option Tree)). c.birth) moves.same;
-      number = ap (λ (c : Carry (Option Tree)). c.number) moves.same;
-      noted = ap (λ (c : Carry (Option Tree)). c.noted) moves.same ∙ sym (append-nil a.noted);
-      owes = ap (λ (c : Carry (Option Tree)). c.owes) moves.same;
-      share = ap (λ (c : Carry (Option Tree)). c.share) moves.same;
+      birth = ap (λ (c : Carry (Option Tree)). c.birth) goes.same;
+      number = ap (λ (c : Carry (Option Tree)). c.number) goes.same;
+      noted = ap (λ (c : Carry (Option Tree)). c.noted) goes.same ∙ sym (append-nil a.noted);
+      owes = ap (λ (c : Carry (Option Tree)). c.owes) goes.same;
+      share = ap (λ (c : Carry (Option Tree)). c.share) goes.same;
     } in
-    on_quiet p a b told up notes (moves.leads (fiber_of (carry_of a)) (log p.front (fiber_of (carry_of a))) (leads_up p a up))
+    on_quiet p a b told up notes (goes.leads (fiber_of (carry_of a)) (log p.front (fiber_of (carry_of a))) (leads_up p a up))
+
+pub on_moved : (p : Sight (Option Tree)) (a b : Shown) (told : Option (List ℕ)) → IsUp p a → Moves a b → IsOn p p a b told told
+on_moved p a b told up moves = on_gone p a b told up (record { same = moves.same; leads = moves.leads; lighter = (let less = moves.lighter in omega (arith, less)) })

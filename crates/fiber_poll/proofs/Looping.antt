@@ -19,7 +19,7 @@ use Rattle.fiber_body.specs.Follows.{context_of}
 use Rattle.fiber_body.specs.Meaning.{Runs, block_at, break_broke, broke, done, next}
 use Rattle.fiber_body.specs.Texts.{block_in, blocks_in}
 use Rattle.fiber_poll.specs.declared.spot.Spot.{Spot}
-use Rattle.fiber_poll.specs.Moving.{HasLoop, LeadsOut, Moves, Settles, spent_step, weight, weight_at}
+use Rattle.fiber_poll.specs.Moving.{Goes, HasLoop, LeadsOut, Moves, Settles, spent_step, weight, weight_at}
 use Rattle.fiber_poll.specs.Laws.{port_later}
 use Rattle.fiber_poll.specs.Built.{is_built}
 use Rattle.fiber_poll.specs.Polls.{IsPortOf}
@@ -27,7 +27,14 @@ use Rattle.fiber_poll.specs.Ranges.{CanRun}
 use Rattle.fiber_poll.specs.UnderWay.{GaveUp, IsAt, IsBefore, IsOn, IsUp}
 use Rattle.fiber_poll.proofs.Breaks.{never_broke}
 use Rattle.fiber_poll.proofs.Framing.{loop_or_broke}
+use Rattle.fiber_poll.proofs.Going.{on_gone, on_trans}
 use Rattle.fiber_poll.proofs.Leading.{leads_out, leads_up, past_end}
+
+-- a part of the turn went in one block, in which the body stands still
+pub record IsInside (old new : Sight (Option Tree)) (body later : Shown) (before now : Option (List ℕ)) (block place : ℕ) : Type 0 where
+  pub on : IsOn old new body later before now
+  pub at : later.standing ≡ At block place
+  pub lighter : weight later ≤ weight body
 
 -- the body's program is the poller's
 program_up : (script : Tree) (port : Sight (Option Tree)) (body : Shown) → IsPortOf script port → IsUp port body → body.program ≡ Some script
@@ -99,3 +106,11 @@ module _ (p q : Sight (Option Tree)) (a b : Shown) (start now : Option (List ℕ
   gave_up_after r Full on why = why
   gave_up_after r Again on why = rose_from p.contention q.contention r.contention on.went.grew.later.steady why
   gave_up_after r Memory on why = tt
+
+  -- the block's changes were made
+  pub inside_gone : (d : Shown) (block place later : ℕ) → IsInside p q a b start now block place → Goes b d → d.standing ≡ At block later → IsInside p q a d start now block later
+  inside_gone d block place later inside goes at = record {
+    on = on_trans p q q a b d start now now inside.on (on_gone q b d now inside.on.up goes);
+    at = at;
+    lighter = omega (arith, goes.lighter, inside.lighter);
+  }

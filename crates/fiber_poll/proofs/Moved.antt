@@ -1,7 +1,7 @@
 -- How a statement that makes no entry moves its body.
 use Rattle.std.proofs.Common.{◌≡◌, ◌≢◌, ℕ, ◌+◌, ◌-◌, ◌*◌, ◌<◌, Some, None, List, [], ◌∷◌, length, drop, refl, sym, ap, subst, ◌∙◌, append-nil, arith}
 use Rattle.pic_base.specs.declared.outcome.Outcome.TheVariants.{Cancelled}
-use Rattle.pic_machine.specs.declared.entry.Happened.{Happened}
+use Rattle.pic_machine.specs.Happened.{Happened}
 use Rattle.script_tree.specs.declared.program.Stmt.{Stmt}
 use Rattle.script_tree.specs.declared.program.Stmt.TheVariants as stmt
 use Rattle.fiber_body.specs.declared.standing.Frame.{Frame}

@@ -2,7 +2,7 @@
 use Rattle.std.proofs.Common.{◌≡◌, ◌≢◌, ℕ, ◌+◌, ◌-◌, ◌<◌, ◌≤◌, Option, Some, None, List, [], ◌∷◌, slice_get, slice_set, length, refl, sym, ap, subst, ◌∙◌, append-nil, arith}
 use Rattle.pic_base.specs.declared.outcome.Outcome.{Outcome}
 use Rattle.pic_base.specs.declared.outcome.Outcome.TheVariants.{Cancelled}
-use Rattle.pic_machine.specs.declared.entry.Happened.{Happened}
+use Rattle.pic_machine.specs.Happened.{Happened}
 use Rattle.script_tree.specs.declared.program.Stmt.{Stmt}
 use Rattle.fiber_body.specs.declared.standing.Frame.{Frame}
 use Rattle.fiber_body.specs.declared.standing.Frame.TheVariants.{Rest, Again, Catch}

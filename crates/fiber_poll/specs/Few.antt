@@ -7,7 +7,7 @@ use Rattle.pic_base.specs.declared.limits.TheConstants.{STEPS}
 use Rattle.pic_base.specs.declared.outcome.Outcome.{Outcome}
 use Rattle.pic_machine.specs.declared.entry.Call.TheVariants as call
 use Rattle.pic_machine.specs.declared.entry.Reply.TheVariants.{Plain}
-use Rattle.pic_machine.specs.declared.entry.Happened.{Happened}
+use Rattle.pic_machine.specs.Happened.{Happened}
 use Rattle.pic_machine.specs.History.{event}
 use Rattle.pic_machine.specs.Order.{stops, turns_over}
 use Rattle.script_tree.specs.declared.program.Stmt.{Stmt}

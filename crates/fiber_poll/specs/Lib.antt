@@ -4,4 +4,5 @@ pub mod Laws
 pub mod Few
 pub mod Ranges
 pub mod Moving
+pub mod Changing
 pub mod UnderWay

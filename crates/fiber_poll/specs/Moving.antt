@@ -1,6 +1,6 @@
--- How a body moves between two entries of its fiber.
+-- How a body moves between two entries of its fiber. Only private contracts cite these words.
 use Rattle.std.specs.Prelude.{◌≡◌, ℕ, ◌+◌, ◌*◌, ◌-◌, ◌<◌, ◌≤◌, List, [], ◌∷◌, ◌++◌, length, ⊤}
-use Rattle.pic_machine.specs.declared.entry.Happened.{Happened}
+use Rattle.pic_machine.specs.Happened.{Happened}
 use Rattle.fiber_body.specs.declared.standing.Frame.{Frame}
 use Rattle.fiber_body.specs.declared.standing.Frame.TheVariants.{Rest, Again, Catch}
 use Rattle.fiber_body.specs.declared.standing.Standing.{Standing}
@@ -38,6 +38,12 @@ pub record Moves (old new : Shown) : Type 0 where
   pub same : carry_of new ≡ carry_of old
   pub leads : (f : ℕ) (log : List Happened) → Leads old f log old.standing → Leads new f log new.standing
   pub lighter : weight new < weight old
+
+-- the same, or the body stands where it stood
+pub record Goes (old new : Shown) : Type 0 where
+  pub same : carry_of new ≡ carry_of old
+  pub leads : (f : ℕ) (log : List Happened) → Leads old f log old.standing → Leads new f log new.standing
+  pub lighter : weight new ≤ weight old
 
 -- the body once the step for a statement is spent
 abbrev pub spent_step : Shown → Shown

@@ -1,4 +1,5 @@
 -- What statements keep to that are run: their numbers are in their ranges, and what they name is there.
+-- Only private contracts cite these words.
 use Rattle.std.specs.Prelude.{◌<◌, ⊤}
 use Rattle.script_tree.specs.declared.program.Stmt.{Stmt}
 use Rattle.script_tree.specs.declared.program.Stmt.TheVariants.{Set, Add, Sub, Mul, Put, Get, Say, Raise, Break, Return, Cancel, Peek, Spawn, Yield, If, Loop, Try}

@@ -1,10 +1,10 @@
--- What stands while a turn of a script's fiber is under way.
+-- What stands while a turn of a script's fiber is under way. Only private contracts cite these words.
 use Rattle.std.specs.Prelude.{◌≡◌, ◌≢◌, ℕ, ◌+◌, ◌-◌, ◌<◌, ◌^◌, Bool, true, false, Option, Some, None, List, [], ◌∷◌, slice_get, ⊤}
 use Rattle.pic_base.specs.declared.outcome.Outcome.{Outcome}
 use Rattle.pic_machine.specs.declared.entry.Call.TheVariants as call
 use Rattle.pic_machine.specs.declared.entry.CompleteReply.{CompleteReply}
 use Rattle.pic_machine.specs.declared.entry.Reply.TheVariants.{Completed, Peeked}
-use Rattle.pic_machine.specs.declared.entry.Happened.{Happened}
+use Rattle.pic_machine.specs.Happened.{Happened}
 use Rattle.pic_machine.specs.declared.poller.Turn.{Turn}
 use Rattle.pic_machine.specs.declared.poller.Turn.TheVariants as turn
 use Rattle.pic_machine.specs.declared.port.PortFault.{PortFault}
@@ -19,7 +19,7 @@ use Rattle.script_tree.specs.declared.program.Stmt.TheVariants as stmt
 use Rattle.script_tree.specs.Tree.{Tree}
 use Rattle.fiber_body.specs.declared.standing.Standing.TheVariants.{At, Leaving}
 use Rattle.fiber_body.specs.Fits.{Fits, blocks_of}
-use Rattle.fiber_body.specs.Meaning.{Context, CostsStep, Does, Exit, Runs, block_at, else_at, next, outcome_number, overflow, raised, state_number, stepped, with_register, won}
+use Rattle.fiber_body.specs.Meaning.{Context, CostsStep, Does, Exit, Runs, block_at, else_at, next, outcome_number, state_number, stepped, with_register, won}
 use Rattle.fiber_body.specs.Shown.{Shown, carry_of, context_at}
 use Rattle.fiber_poll.specs.declared.spot.Spot.{Spot}
 use Rattle.fiber_poll.specs.declared.spot.Last.{Last}
@@ -54,19 +54,6 @@ pub record IsBefore (body : Shown) (spot : Spot) (s : Stmt) : Type 0 where
 -- the body once the statement at this place is made
 abbrev pub behind : Shown → Spot → Shown
 behind body spot = record body { steps = body.steps - 1; standing = At spot.block (spot.place + 1) }
-
--- the statement has this number for the register, or its result is no number of a script
-abbrev pub Computes : Shown → Stmt → ℕ → Option ℕ → Type 0
-Computes body s register (Some value) = (f : ℕ) → Does (blocks_of body) f s (stepped (context_at body)) [] next
-    (with_register (stepped (context_at body)) register value)
-Computes body s register None = (f : ℕ) → Does (blocks_of body) f s (stepped (context_at body)) [] (raised overflow)
-    (stepped (context_at body))
-
--- the body stands before a statement that has this result for the register
-pub record IsBeforeResult (body : Shown) (spot : Spot) (register : ℕ) (result : Option ℕ) : Type 0 where
-  pub s : Stmt
-  pub before : IsBefore body spot s
-  pub does : Computes body s register result
 
 -- the body stands before a statement that runs this block, or none
 pub record IsBeforeBlock (body : Shown) (spot : Spot) (block : Option ℕ) : Type 0 where

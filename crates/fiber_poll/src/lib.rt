@@ -2,13 +2,13 @@
 //!
 //! `ScriptPoller` keeps the contract of `Poller` for every port whose bodies are `Body`: a turn runs the
 //! statements of the fiber's text one by one, in and out of their blocks, each as `fiber_body` says what
-//! it means, until the fiber yields or ends. It polls where the port's bodies run its program, all of whose forms are built
-//! (`built`, `specs/Built.antt`), and its computations stand (`specs/Polls.antt`). It stands on
-//! `pic_base`, `pic_machine`, `script_tree` and `fiber_body`.
+//! it means, until the fiber yields or ends. It polls where the port's bodies run its program, all of
+//! whose forms are built (`built`, `specs/Built.antt`), and its computations stand (`specs/Polls.antt`).
+//! It stands on `pic_base`, `pic_machine`, `script_tree` and `fiber_body`.
 #![tactic(auto)]
 
-mod arithmetic;
 mod blocks;
+mod changes;
 mod forms;
 mod last;
 mod poller;
@@ -16,7 +16,6 @@ mod run;
 mod spawn;
 mod spot;
 mod stmts;
-mod storage;
 mod turn;
 mod unwinding;
 mod values;

@@ -3,26 +3,28 @@ ghost use Rattle.std.specs.Prelude.{◌≡◌, ◌≢◌, ◌<◌, ℕ, cond, fa
 ghost use Rattle.std.specs.Arc.{arc_value};
 ghost use Rattle.script_tree.specs.Tree.{Tree};
 ghost use Rattle.script_tree.specs.WellFormed.{IsWellFormed};
+ghost use Rattle.fiber_poll.specs.Changing.{HasNoChange};
 ghost use Rattle.fiber_poll.specs.Moving.{HasLoop, Moves, weight};
 ghost use Rattle.fiber_poll.specs.Polls.{IsPortOf};
 ghost use Rattle.fiber_poll.specs.Ranges.{CanRun};
 ghost use Rattle.fiber_poll.specs.UnderWay.{GaveUp, IsBefore, IsOn, IsUp, makes_entry};
 
-use crate::arithmetic::{add, mul, sub};
 use crate::blocks::{enter, enter_try};
 use crate::poller::ScriptPoller;
 use crate::spawn::spawn;
 use crate::spot::Spot;
 use crate::stmts::{complete, peek, say};
-use crate::storage::{get, put, set};
 use crate::unwinding::{break_loop, raise};
 use crate::values::{comp_of, holds, value_of};
 use fiber_body::Body;
-use pic_base::{Memory, Outcome};
+use pic_base::{Memory, Outcome, Value};
 use pic_machine::{Carried, Port, PortFault, ReadyLine};
 use script_tree::{Operand, Stmt, Test};
 
-/// Runs one statement, which is no yield.
+/// The code that is raised where a result is no number of a script.
+const OVERFLOW: Value = 2;
+
+/// Runs one statement, which is no yield and has no change to make.
 pub(crate) fn run_stmt<P: Port<Body = Body>, R: ReadyLine>(
     poller: &ScriptPoller,
     port: &mut P,
@@ -35,6 +37,7 @@ pub(crate) fn run_stmt<P: Port<Body = Body>, R: ReadyLine>(
     requires up { IsUp (P.sight port.old) body.old }
     requires before { IsBefore body.old spot stmt.now }
     requires no_yield { stmt.now ≢ Stmt.Yield }
+    requires no_change { HasNoChange body.old stmt.now }
     requires can { CanRun (arc_value poller.now.program) stmt.now }
     requires formed { IsWellFormed (arc_value poller.now.program) }
     ensures on { IsOn (P.sight port.old) (P.sight port.new) body.old body.new (R.told line.old) (R.told line.new) }
@@ -111,6 +114,7 @@ fn run_quietly(body: &mut Body, spot: Spot, stmt: &Stmt) -> Result<(), Memory>
     requires before { IsBefore body.old spot stmt.now }
     requires around { stmt.now ≡ Stmt.Break → HasLoop body.old.frames }
     requires entry { makes_entry stmt.now ≡ false }
+    requires no_change { HasNoChange body.old stmt.now }
     requires can { (script : Tree) × CanRun script stmt.now }
     ensures moves { OnOk result (Moves body.old body.new) }
     ensures kept { OnErr result (body.new ≡ body.old) }
@@ -133,7 +137,7 @@ fn run_quietly(body: &mut Body, spot: Spot, stmt: &Stmt) -> Result<(), Memory>
             handler,
         } => enter_try(body, spot, *block, *register, *handler),
         _ => {
-            run_plainly(body, spot, stmt);
+            run_out(body, spot, stmt);
             Ok(())
         }
     }
@@ -146,25 +150,22 @@ fn chosen(holds: bool, then: u32, other: Option<u32>) -> Option<u32>
     if holds { Some(then) } else { other }
 }
 
-/// Runs one statement that makes no entry and enters no block.
-fn run_plainly(body: &mut Body, spot: Spot, stmt: &Stmt)
+/// Runs one statement that makes no entry, enters no block and has no change to make: a text is left, or
+/// a block.
+fn run_out(body: &mut Body, spot: Spot, stmt: &Stmt)
     requires before { IsBefore body.old spot stmt.now }
     requires around { stmt.now ≡ Stmt.Break → HasLoop body.old.frames }
     requires entry { makes_entry stmt.now ≡ false }
     requires no_if { (left right : Operand) (test : Test) (then : ℕ) (other : Option ℕ) → stmt.now ≢ Stmt.If left test right then other }
     requires no_try { (block register handler : ℕ) → stmt.now ≢ Stmt.Try block register handler }
+    requires no_change { HasNoChange body.old stmt.now }
     requires can { (script : Tree) × CanRun script stmt.now }
     ensures { Moves body.old body.new }
 {
     match stmt {
-        Stmt::Set(register, operand) => set(body, spot, *register, *operand),
-        Stmt::Add(register, operand) => add(body, spot, *register, *operand),
-        Stmt::Sub(register, operand) => sub(body, spot, *register, *operand),
-        Stmt::Mul(register, operand) => mul(body, spot, *register, *operand),
-        Stmt::Put(key, operand) => put(body, spot, *key, *operand),
-        Stmt::Get(register, key) => get(body, spot, *register, *key),
+        Stmt::Add(..) | Stmt::Sub(..) | Stmt::Mul(..) => raise(body, OVERFLOW),
         Stmt::Raise(operand) => raise(body, value_of(body, *operand)),
         Stmt::Break => break_loop(body),
-        _ => unreachable!("the statement is built"),
+        _ => unreachable!("the statement is built, and has no change"),
     }
 }

@@ -34,6 +34,8 @@ pub fn run_fifo<B: Carried + Send, Q: Poller<PlainPort<B>>>(
     ensures out { IfOk result (λ done. done.out ≡ None) }
 {
     let mut port = port;
+    // Main alone is ready. The world tells how many fibers there are, and that the port began at a start
+    // that a machine can have, on which all turns rest.
     let mut line = Line::starting(alloc, port.world().fibers().len())?;
     while let Some(fiber) = line.take() {
         run_turn(poller, &mut port, &mut line, fiber)?;

@@ -11,7 +11,7 @@ ghost use Rattle.pic_machine.specs.Lending.{Rose};
 use super::run_fifo;
 use pic_base::{FiberNo, Limits, Memory, Outcome};
 use pic_machine::{
-    Birth, Call, Carried, Entry, Happened, Poller, Port, PortFault, ReadyLine, Reply, Start, Turn,
+    Birth, Call, Carried, Entry, Poller, Port, PortFault, ReadyLine, Reply, Start, Turn,
 };
 use port_plain::PlainPort;
 use std::alloc::Global;
@@ -301,9 +301,9 @@ fn fibers_take_turns_and_end(rt: HostRuntime) -> Result<(), Fail> {
         (2, ended),
     ];
     assert_eq!(rt; done.history().len(), expected.len());
-    for (happened, (fiber, call)) in done.history().iter().zip(expected) {
-        assert_eq!(rt; happened.entry.fiber, fiber);
-        assert_eq!(rt; happened.entry.call, call);
+    for (entry, (fiber, call)) in done.history().iter().zip(expected) {
+        assert_eq!(rt; entry.fiber, fiber);
+        assert_eq!(rt; entry.call, call);
     }
     Ok(())
 }

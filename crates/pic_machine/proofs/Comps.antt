@@ -1,6 +1,6 @@
 -- While no call makes a computation, there are as many as at first.
 use Rattle.std.proofs.Common.{◌≡◌, List, [], ◌∷◌, length, refl, ◌∙◌}
-use Rattle.pic_machine.specs.declared.entry.Happened.{Happened}
+use Rattle.pic_machine.specs.Happened.{Happened}
 use Rattle.pic_machine.specs.State.{State}
 use Rattle.pic_machine.specs.Step.{after}
 use Rattle.pic_machine.specs.History.{Origin, world_from, world}

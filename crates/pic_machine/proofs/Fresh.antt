@@ -13,7 +13,7 @@ use Rattle.pic_machine.specs.declared.entry.Call.{Call}
 use Rattle.pic_machine.specs.declared.entry.Call.TheVariants.{Turn, Yield, Complete, Peek, Fork, Say, End}
 use Rattle.pic_machine.specs.declared.entry.Reply.{Reply}
 use Rattle.pic_machine.specs.declared.entry.Reply.TheVariants.{Plain, Full, Made, Completed, Peeked}
-use Rattle.pic_machine.specs.declared.entry.Happened.{Happened}
+use Rattle.pic_machine.specs.Happened.{Happened}
 use Rattle.pic_machine.specs.State.{State, owed_of}
 use Rattle.pic_machine.specs.Step.{MayAct, after, completed, fork_reply, has_room, peeked, reply_of}
 use Rattle.pic_machine.specs.History.{Origin, Follows, IsLegal, birth_among, birth_in, forked, made_birth, or_later, world, world_from}

@@ -1,6 +1,6 @@
 -- How a poll's answer is put together: a part of a turn, and what the rest of it answers.
 use Rattle.std.proofs.Common.{◌≡◌, ◌≢◌, ℕ, Option, List, [], ◌∷◌, ◌++◌, refl, sym, subst, ap, ◌∙◌, append_assoc}
-use Rattle.pic_machine.specs.declared.entry.Happened.{Happened}
+use Rattle.pic_machine.specs.Happened.{Happened}
 use Rattle.pic_machine.specs.declared.poller.Turn.{Turn}
 use Rattle.pic_machine.specs.declared.poller.Turn.TheVariants.{Ended, Yielded, Again, Memory}
 use Rattle.pic_machine.specs.declared.port.PortFault.{PortFault}

@@ -11,7 +11,7 @@ use Rattle.pic_machine.specs.declared.state.FiberState.TheVariants.{Live}
 use Rattle.pic_machine.specs.declared.entry.Call.{Call}
 use Rattle.pic_machine.specs.declared.entry.Call.TheVariants.{Turn, Yield, Complete, Peek, Fork, Say, End}
 use Rattle.pic_machine.specs.declared.entry.Reply.{Reply}
-use Rattle.pic_machine.specs.declared.entry.Happened.{Happened}
+use Rattle.pic_machine.specs.Happened.{Happened}
 use Rattle.pic_machine.specs.State.{State}
 use Rattle.pic_machine.specs.Step.{IsLive, MayAct, after}
 use Rattle.pic_machine.specs.History.{Origin, Follows, IsLegal, world, world_from}

@@ -5,7 +5,7 @@ use Rattle.pic_machine.specs.declared.entry.Call.{Call}
 use Rattle.pic_machine.specs.declared.entry.Call.TheVariants.{Turn, Yield, Fork, End}
 use Rattle.pic_machine.specs.declared.entry.Reply.{Reply}
 use Rattle.pic_machine.specs.declared.entry.Reply.TheVariants.{Plain, Made}
-use Rattle.pic_machine.specs.declared.entry.Happened.{Happened}
+use Rattle.pic_machine.specs.Happened.{Happened}
 use Rattle.pic_machine.specs.History.{event}
 use Rattle.pic_machine.specs.Log.{is_turn}
 

@@ -3,7 +3,7 @@ use Rattle.std.specs.Prelude.{◌≡◌, ℕ, true, Option, Some, None, MatchOpt
 use Rattle.std.specs.List.{AllByRecursion}
 use Rattle.pic_machine.specs.declared.entry.Call.{Call}
 use Rattle.pic_machine.specs.declared.entry.Call.TheVariants as call
-use Rattle.pic_machine.specs.declared.entry.Happened.{Happened}
+use Rattle.pic_machine.specs.Happened.{Happened}
 use Rattle.pic_machine.specs.declared.poller.Turn.{Turn}
 use Rattle.pic_machine.specs.declared.poller.Turn.TheVariants.{Ended, Yielded, Again, Memory}
 use Rattle.pic_machine.specs.History.{IsLegal}

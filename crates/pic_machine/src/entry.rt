@@ -1,6 +1,3 @@
-ghost use Rattle.std.specs.Prelude.{◌≡◌};
-
-use crate::birth::Birth;
 use pic_base::{CompNo, FiberNo, Outcome, Value};
 
 /// What a fiber asks of the machine.
@@ -51,44 +48,4 @@ pub struct Entry {
     pub fiber: FiberNo,
     pub call: Call,
     pub reply: Reply,
-}
-
-/// An entry as it stands in a history: beside the entry that made a fiber stands the birth of that
-/// fiber, and beside any other entry none.
-#[derive(Clone, Copy, Debug, PartialEq, Eq)]
-pub struct Happened {
-    pub entry: Entry,
-    pub birth: Option<Birth>,
-}
-
-impl Happened {
-    ghost use Rattle.pic_machine.specs.History.{event, forked};
-
-    /// An entry that made no fiber.
-    pub fn event(fiber: FiberNo, call: Call, reply: Reply) -> Happened
-        ensures { result ≡ event fiber call reply }
-    {
-        Happened {
-            entry: Entry { fiber, call, reply },
-            birth: None,
-        }
-    }
-
-    /// The entry by which the fiber made another one, with this number and birth.
-    pub fn forked(fiber: FiberNo, number: FiberNo, birth: Birth) -> Happened
-        ensures { result ≡ forked fiber number birth }
-    {
-        let call = Call::Fork {
-            text: birth.text,
-            value: birth.value,
-        };
-        Happened {
-            entry: Entry {
-                fiber,
-                call,
-                reply: Reply::Made(number),
-            },
-            birth: Some(birth),
-        }
-    }
 }

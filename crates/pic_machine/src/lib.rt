@@ -35,7 +35,7 @@ mod world;
 pub use birth::Birth;
 pub use body::Carried;
 pub use closed::Closed;
-pub use entry::{Call, CompleteReply, Entry, Happened, Reply};
+pub use entry::{Call, CompleteReply, Entry, Reply};
 pub use poller::{Poller, Turn};
 pub use port::{ClaimRefusal, Idle, Port, PortFault, ReadyLine};
 pub use state::{CompState, Completion, FiberState};

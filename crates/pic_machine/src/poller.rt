@@ -1,6 +1,6 @@
 ghost use Rattle.std.specs.Prelude.{◌≡◌, ◌≢◌, ◌+◌, ◌≤◌, List, Some};
 ghost use Rattle.pic_base.specs.declared.limits.TheConstants.{STEPS};
-ghost use Rattle.pic_machine.specs.declared.entry.Happened.{Happened};
+ghost use Rattle.pic_machine.specs.Happened.{Happened};
 ghost use Rattle.pic_machine.specs.Log.{log};
 ghost use Rattle.pic_machine.specs.Order.{turns_over};
 ghost use Rattle.pic_machine.specs.Sight.{Holds, Sight, fiber_of};

@@ -8,7 +8,7 @@ use Rattle.pic_io.specs.Faults.{Rose}
 use Rattle.pic_io.specs.declared.sink.SinkRefusal.{SinkRefusal}
 use Rattle.pic_io.specs.declared.sink.SinkRefusal.TheVariants as sink
 use Rattle.pic_report.specs.declared.refusal.ReportRefusal.{ReportRefusal}
-use Rattle.pic_report.specs.declared.refusal.ReportRefusal.TheVariants.{WriteFault, Memory}
+use Rattle.pic_report.specs.declared.refusal.ReportRefusal.TheVariants.{WriteFault}
 use Rattle.pic_report.specs.Refusals.{refusal_of}
 use Rattle.pic_report.specs.Report.{joined}
 use Rattle.pic_report.specs.Output.{Puts}
@@ -63,19 +63,6 @@ put_whole before now faults faults_now text rest put none = record {
   fault = λ is. absurd cc;
   steady = put.steady;
 }
-
--- memory was wanted, and nothing was put
-pub put_nothing : (before : Option (List ℕ)) (faults : ℕ) (text : List ℕ) → Puts before before faults faults text (Err Memory)
-put_nothing before faults text = record {
-  whole = tt;
-  refused = record { front = []; back = text; is = refl; taken = Appends-nil before };
-  fault = λ is. absurd cc;
-  steady = omega arith;
-}
-
--- there was nothing to put
-pub put_empty : (before : Option (List ℕ)) (faults : ℕ) → Puts before before faults faults [] (Ok tt)
-put_empty before faults = record { whole = Appends-nil before; refused = tt; fault = λ is. absurd cc; steady = omega arith }
 
 -- ---- one text after the other
 

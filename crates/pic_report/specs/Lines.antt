@@ -1,4 +1,5 @@
--- Words for the calls that write a report. Only their own contracts cite them.
+-- How a fiber stands, and what a pass over entries finds of computations. Only private contracts cite
+-- these words.
 use Rattle.std.specs.Prelude.{◌≡◌, ℕ, ◌<◌, ◌-◌, Option, Some, None, List, length, slice_get, slice_index_or, slice_set}
 use Rattle.pic_machine.specs.declared.entry.Call.{Call}
 use Rattle.pic_machine.specs.declared.entry.Call.TheVariants.{End}

@@ -1,4 +1,5 @@
--- Which refusal of a text a sink's refusal is.
+-- Which refusal of a text a sink's refusal is. Only the conversion of the one into the other cites this
+-- word, and no public function's contract.
 use Rattle.pic_io.specs.declared.sink.SinkRefusal.{SinkRefusal}
 use Rattle.pic_io.specs.declared.sink.SinkRefusal.TheVariants as sink
 use Rattle.pic_report.specs.declared.refusal.ReportRefusal.{ReportRefusal}

@@ -6,7 +6,7 @@ use Rattle.std.specs.List.{flat_map}
 use Rattle.pic_machine.specs.declared.birth.Birth.{Birth}
 use Rattle.pic_machine.specs.declared.closed.Closed.{Closed}
 use Rattle.pic_machine.specs.declared.entry.Entry.{Entry}
-use Rattle.pic_machine.specs.declared.entry.Happened.{Happened}
+use Rattle.pic_machine.specs.Happened.{Happened}
 use Rattle.pic_machine.specs.declared.state.FiberState.{FiberState}
 use Rattle.pic_machine.specs.declared.world.Start.{Start}
 use Rattle.pic_machine.specs.Completing.{comp_state, completion}

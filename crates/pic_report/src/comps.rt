@@ -1,5 +1,5 @@
 //! The lines of computations.
-ghost use Rattle.std.specs.Prelude.{◌≡◌, ◌+◌, length, string_bytes, IfOk};
+ghost use Rattle.std.specs.Prelude.{◌≡◌, ◌+◌, length};
 ghost use Rattle.pic_machine.specs.Completing.{comp_state};
 ghost use Rattle.pic_report.specs.Output.{Puts};
 ghost use Rattle.pic_report.specs.Report.{comp_line, comp_name, declared_names, joined};
@@ -9,7 +9,6 @@ use crate::completions::completions_of;
 use crate::output::put_line;
 use crate::refusal::ReportRefusal;
 use crate::view::RunView;
-use pic_base::Memory;
 use pic_io::Sink;
 use pic_machine::Completion;
 use script_tree::Program;
@@ -20,6 +19,7 @@ pub(crate) fn put_comps<K: Sink>(
     alloc: Global,
     program: &Program,
     view: &RunView,
+    buffer: &mut String,
     out: &mut K,
 ) -> Result<(), ReportRefusal>
     ensures { Puts (K.taken out.old) (K.taken out.new) (K.fault_count out.old) (K.fault_count out.new)
@@ -28,26 +28,31 @@ pub(crate) fn put_comps<K: Sink>(
 {
     let found = completions_of(alloc, view, program.decls.len() + 1)?;
     for (number, by) in found.iter().enumerate() {
-        put_line(out, comp_line(alloc, program, number, *by))?;
+        put_comp(program, number, *by, buffer, out)?;
     }
     Ok(())
 }
 
-/// The line of a computation that was completed so, or not at all.
-fn comp_line(
-    alloc: Global,
+/// Writes the line of a computation that was completed so, or not at all.
+fn put_comp<K: Sink>(
     program: &Program,
     number: usize,
     by: Option<Completion>,
-) -> Result<String, Memory>
-    ensures { IfOk result (λ line.
-        string_bytes line ≡ comp_line (declared_names program.now) number by (comp_state by)) }
+    buffer: &mut String,
+    out: &mut K,
+) -> Result<(), ReportRefusal>
+    ensures { Puts (K.taken out.old) (K.taken out.new) (K.fault_count out.old) (K.fault_count out.new)
+        (comp_line (declared_names program.now) number by (comp_state by)) result }
 {
     let name = comp_name(program, number);
     match by {
-        None => Ok(format!(in alloc; "comp {number} {name} running\n")?),
+        None => put_line(format_args!("comp {number} {name} running\n"), buffer, out),
         Some(Completion { fiber, outcome }) => {
-            Ok(format!(in alloc; "comp {number} {name} {outcome} by {fiber}\n")?)
+            put_line(
+                format_args!("comp {number} {name} {outcome} by {fiber}\n"),
+                buffer,
+                out,
+            )
         }
     }
 }

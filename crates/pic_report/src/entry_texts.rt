@@ -1,74 +1,111 @@
 //! The texts of entries.
-ghost use Rattle.std.specs.Prelude.{◌≡◌, ◌++◌, codes, decimal, string_bytes, IfOk};
-ghost use Rattle.pic_base.specs.Outcome.{outcome_text};
-ghost use Rattle.pic_report.specs.EntryText.{completed_words, entry_text, forked_words, peeked_words, text_name};
+ghost use Rattle.std.specs.Prelude.{◌≡◌};
+ghost use Rattle.pic_report.specs.EntryText.{text_name};
 ghost use Rattle.pic_report.specs.Report.{text_names};
 
-use pic_base::{CompNo, Memory, Outcome, Value};
 use pic_machine::{Call, CompleteReply, Entry, Reply};
 use script_tree::Program;
-use std::alloc::Global;
+use std::fmt;
 
-/// The text of an entry.
-pub(crate) fn entry_text(alloc: Global, program: &Program, entry: Entry) -> Result<String, Memory>
-    ensures { IfOk result (λ text.
-        string_bytes text ≡ entry_text (text_names program.now) entry.call entry.reply) }
-{
-    match entry.call {
-        Call::Turn => Ok(String::from_str(alloc, "turn")?),
-        Call::Yield => Ok(String::from_str(alloc, "yield")?),
-        Call::Complete { comp, outcome } => complete_text(alloc, comp, outcome, entry.reply),
-        Call::Peek(comp) => peek_text(alloc, comp, entry.reply),
-        Call::Fork { text, value } => {
-            fork_text(alloc, text_name(program, text), value, entry.reply)
+/// Prints as the text of an entry of a run of the program.
+#[derive(Drop)]
+pub(crate) struct EntryText<'a> {
+    pub(crate) program: &'a Program,
+    pub(crate) entry: Entry,
+}
+
+impl fmt::Display for EntryText<'_> {
+    ghost use Rattle.std.specs.Prelude.{Some};
+    ghost use Rattle.pic_report.specs.EntryText.{entry_text};
+
+    ghost output = { λ shown.
+        Some (entry_text (text_names shown.program.now) shown.entry.call shown.entry.reply) };
+
+    fn fmt<W: fmt::Write>(&self, f: &mut fmt::Formatter<W>) -> fmt::Result {
+        let reply = self.entry.reply;
+        match self.entry.call {
+            Call::Turn => f.write_str("turn"),
+            Call::Yield => f.write_str("yield"),
+            Call::Complete { comp, outcome } => {
+                let told = CompletedWords { reply };
+                write!(f, "complete c{comp} {outcome} {told}")
+            }
+            Call::Peek(comp) => {
+                let told = PeekedWords { reply };
+                write!(f, "peek c{comp} {told}")
+            }
+            Call::Fork { text, value } => {
+                let told = ForkedWords { reply };
+                let name = text_name(self.program, text);
+                write!(f, "fork {told} {name} {value}")
+            }
+            Call::Say(value) => write!(f, "say {value}"),
+            Call::End(outcome) => write!(f, "end {outcome}"),
         }
-        Call::Say(value) => Ok(format!(in alloc; "say {value}")?),
-        Call::End(outcome) => Ok(format!(in alloc; "end {outcome}")?),
     }
 }
 
-/// The text of a completion that got this reply.
-fn complete_text(
-    alloc: Global,
-    comp: CompNo,
-    outcome: Outcome,
+/// Prints what the reply of a completion tells: whether the call won, and the outcome that stood if
+/// not.
+#[derive(Drop)]
+struct CompletedWords {
     reply: Reply,
-) -> Result<String, Memory>
-    ensures { IfOk result (λ text. string_bytes text ≡ codes "complete c" ++ (decimal comp
-        ++ (codes " " ++ (outcome_text outcome ++ (codes " " ++ completed_words reply))))) }
-{
-    match reply {
-        Reply::Completed(CompleteReply::Won) => {
-            Ok(format!(in alloc; "complete c{comp} {outcome} won")?)
+}
+
+impl fmt::Display for CompletedWords {
+    ghost use Rattle.std.specs.Prelude.{Some};
+    ghost use Rattle.pic_report.specs.EntryText.{completed_words};
+
+    ghost output = { λ shown. Some (completed_words shown.reply) };
+
+    fn fmt<W: fmt::Write>(&self, f: &mut fmt::Formatter<W>) -> fmt::Result {
+        match self.reply {
+            Reply::Completed(CompleteReply::Won) => f.write_str("won"),
+            Reply::Completed(CompleteReply::Lost(standing)) => write!(f, "lost {standing}"),
+            _ => f.write_str("-"),
         }
-        Reply::Completed(CompleteReply::Lost(standing)) => {
-            Ok(format!(in alloc; "complete c{comp} {outcome} lost {standing}")?)
-        }
-        _ => Ok(format!(in alloc; "complete c{comp} {outcome} -")?),
     }
 }
 
-/// The text of a look at a computation that got this reply.
-fn peek_text(alloc: Global, comp: CompNo, reply: Reply) -> Result<String, Memory>
-    ensures { IfOk result (λ text. string_bytes text ≡ codes "peek c" ++ (decimal comp
-        ++ (codes " " ++ peeked_words reply))) }
-{
-    match reply {
-        Reply::Peeked(None) => Ok(format!(in alloc; "peek c{comp} running")?),
-        Reply::Peeked(Some(outcome)) => Ok(format!(in alloc; "peek c{comp} {outcome}")?),
-        _ => Ok(format!(in alloc; "peek c{comp} -")?),
+/// Prints what the reply of a look at a computation tells: how the computation stood.
+#[derive(Drop)]
+struct PeekedWords {
+    reply: Reply,
+}
+
+impl fmt::Display for PeekedWords {
+    ghost use Rattle.std.specs.Prelude.{Some};
+    ghost use Rattle.pic_report.specs.EntryText.{peeked_words};
+
+    ghost output = { λ shown. Some (peeked_words shown.reply) };
+
+    fn fmt<W: fmt::Write>(&self, f: &mut fmt::Formatter<W>) -> fmt::Result {
+        match self.reply {
+            Reply::Peeked(None) => f.write_str("running"),
+            Reply::Peeked(Some(outcome)) => write!(f, "{outcome}"),
+            _ => f.write_str("-"),
+        }
     }
 }
 
-/// The text of a fork that got this reply; the text of this name was to be run.
-fn fork_text(alloc: Global, name: &str, value: Value, reply: Reply) -> Result<String, Memory>
-    ensures { IfOk result (λ text. string_bytes text ≡ codes "fork " ++ (forked_words reply
-        ++ (codes " " ++ (name.now ++ (codes " " ++ decimal value))))) }
-{
-    match reply {
-        Reply::Made(number) => Ok(format!(in alloc; "fork {number} {name} {value}")?),
-        Reply::Full => Ok(format!(in alloc; "fork full {name} {value}")?),
-        _ => Ok(format!(in alloc; "fork - {name} {value}")?),
+/// Prints what the reply of a fork tells: the child's number, or that there was no room.
+#[derive(Drop)]
+struct ForkedWords {
+    reply: Reply,
+}
+
+impl fmt::Display for ForkedWords {
+    ghost use Rattle.std.specs.Prelude.{Some};
+    ghost use Rattle.pic_report.specs.EntryText.{forked_words};
+
+    ghost output = { λ shown. Some (forked_words shown.reply) };
+
+    fn fmt<W: fmt::Write>(&self, f: &mut fmt::Formatter<W>) -> fmt::Result {
+        match self.reply {
+            Reply::Made(number) => write!(f, "{number}"),
+            Reply::Full => f.write_str("full"),
+            _ => f.write_str("-"),
+        }
     }
 }
 

@@ -1,10 +1,11 @@
 //! Writes texts to a sink.
-ghost use Rattle.std.specs.Prelude.{◌≡◌, ℕ, List, string_bytes, IfOk};
+ghost use Rattle.std.specs.Prelude.{IfSome};
 ghost use Rattle.pic_report.specs.Output.{Puts};
 
 use crate::refusal::ReportRefusal;
-use pic_base::Memory;
 use pic_io::Sink;
+use std::alloc::AllocError;
+use std::fmt::Display;
 
 /// Writes a text in one piece, and then what of it was not taken.
 pub fn put_all<K: Sink>(out: &mut K, text: &[u8]) -> Result<(), ReportRefusal>
@@ -19,17 +20,19 @@ pub fn put_all<K: Sink>(out: &mut K, text: &[u8]) -> Result<(), ReportRefusal>
     Ok(())
 }
 
-/// Writes a line, where there was memory to make it.
-pub(crate) fn put_line<K: Sink>(
+/// Writes a line, which is made in the buffer, in place of what stood there: one buffer serves for all
+/// lines, so that not each of them takes memory of its own.
+pub(crate) fn put_line<K: Sink, L: Display + Drop>(
+    line: L,
+    buffer: &mut String,
     out: &mut K,
-    line: Result<String, Memory>,
 ) -> Result<(), ReportRefusal>
-    ensures { (text : List ℕ) → IfOk line (λ made. string_bytes made ≡ text)
-        → Puts (K.taken out.old) (K.taken out.new)
-        (K.fault_count out.old) (K.fault_count out.new) text result }
+    ensures { IfSome (L.output line) (λ text. Puts (K.taken out.old) (K.taken out.new)
+        (K.fault_count out.old) (K.fault_count out.new) text result) }
 {
-    match line {
-        Ok(line) => put_all(out, line.as_str().as_bytes()),
-        Err(Memory) => Err(ReportRefusal::Memory),
+    buffer.clear();
+    match buffer.write(line) {
+        Ok(()) => put_all(out, buffer.as_bytes()),
+        Err(AllocError) => Err(ReportRefusal::Memory),
     }
 }

@@ -1,11 +1,11 @@
 //! What of a run a report is made from.
 ghost use Rattle.std.specs.Prelude.{◌≡◌, ◌+◌, Bool, List, ℕ, length, slice_get, IfOk};
-ghost use Rattle.pic_machine.specs.declared.entry.Happened.{Happened};
+ghost use Rattle.pic_machine.specs.Happened.{Happened};
 ghost use Rattle.pic_machine.specs.declared.world.Start.{Start};
 ghost use Rattle.script_tree.specs.Tree.{Tree};
 ghost use Rattle.pic_report.specs.Lines.{ended_in, fate};
 ghost use Rattle.pic_report.specs.Report.{report};
-ghost use Rattle.pic_report.specs.View.{IsLeftOf, IsTraceOf, IsViewOf, view_text};
+ghost use Rattle.pic_report.specs.View.{IsLeftOf, IsTraceOf, IsViewOf, main_state, view_text};
 ghost use Rattle.pic_report.specs.Taken.{IsTakenFrom, AreTakenFrom};
 
 use fiber_body::Body;
@@ -32,6 +32,18 @@ pub struct RunView {
     pub now: u32,
     pub trace: Option<Vec<Entry>>,
     pub log: bool,
+}
+
+impl RunView {
+    /// How main stands, the first fiber; none where there is no fiber.
+    pub fn main_state(&self) -> Option<FiberState>
+        ensures { result ≡ main_state self.entry.now.fibers.items }
+    {
+        match self.fibers.as_slice() {
+            [main, ..] => Some(main.state),
+            [] => None,
+        }
+    }
 }
 
 /// What a report tells of a run, of which this is left.

@@ -1,23 +1,22 @@
 //! Writes a report, line by line.
-ghost use Rattle.std.specs.Prelude.{◌≡◌, string_bytes, IfOk};
 ghost use Rattle.pic_report.specs.Output.{Puts};
 ghost use Rattle.pic_report.specs.Report.{clock_line, joined, run_line, text_names};
-ghost use Rattle.pic_report.specs.View.{main_state, traced_lines, view_text};
+ghost use Rattle.pic_report.specs.View.{traced_lines, view_text};
 
 use crate::comps::put_comps;
 use crate::fibers::put_fibers;
 use crate::output::{put_all, put_line};
 use crate::refusal::ReportRefusal;
 use crate::trace::put_trace;
-use crate::view::{FiberView, RunView};
-use pic_base::{Memory, Outcome};
+use crate::view::RunView;
+use pic_base::Outcome;
 use pic_io::Sink;
 use pic_machine::{Entry, FiberState};
 use script_tree::Program;
 use std::alloc::Global;
 
 /// Writes the report of a run of the program: each line in one piece, and then what of it was not
-/// taken. One line at a time is made, so no copy of the whole text is kept.
+/// taken. One line at a time is made, all in one buffer, so no copy of the whole text is kept.
 pub fn write_report<K: Sink>(
     alloc: Global,
     program: &Program,
@@ -28,53 +27,51 @@ pub fn write_report<K: Sink>(
         (view_text program.now view.entry.now) result }
 {
     put_all(out, "picos report 1\n".as_bytes())?;
-    put_traced(alloc, program, &view.trace, out)?;
-    put_fibers(alloc, program, view.fibers.as_slice(), view.log, out)?;
-    put_comps(alloc, program, view, out)?;
-    put_line(out, clock_line(alloc, view.now))?;
-    put_line(out, run_line(alloc, view.fibers.as_slice()))
+    let mut buffer = String::new(alloc);
+    put_traced(program, &view.trace, &mut buffer, out)?;
+    put_fibers(program, view.fibers.as_slice(), view.log, &mut buffer, out)?;
+    put_comps(alloc, program, view, &mut buffer, out)?;
+    put_clock(view.now, &mut buffer, out)?;
+    put_end(view.main_state(), &mut buffer, out)
 }
 
 /// Writes the trace, where there is one.
 fn put_traced<K: Sink>(
-    alloc: Global,
     program: &Program,
     trace: &Option<Vec<Entry>>,
+    buffer: &mut String,
     out: &mut K,
 ) -> Result<(), ReportRefusal>
     ensures { Puts (K.taken out.old) (K.taken out.new) (K.fault_count out.old) (K.fault_count out.new)
         (joined (traced_lines (text_names program.now) trace.now)) result }
 {
     match trace {
-        Some(entries) => put_trace(alloc, program, entries.as_slice(), out),
+        Some(entries) => put_trace(program, entries.as_slice(), buffer, out),
         None => Ok(()),
     }
 }
 
-fn clock_line(alloc: Global, now: u32) -> Result<String, Memory>
-    ensures { IfOk result (λ line. string_bytes line ≡ clock_line now) }
+/// Writes the time that the clock shows.
+fn put_clock<K: Sink>(now: u32, buffer: &mut String, out: &mut K) -> Result<(), ReportRefusal>
+    ensures { Puts (K.taken out.old) (K.taken out.new) (K.fault_count out.old) (K.fault_count out.new)
+        (clock_line now) result }
 {
-    Ok(format!(in alloc; "clock {now}\n")?)
+    put_line(format_args!("clock {now}\n"), buffer, out)
 }
 
-/// How main ended.
-fn run_line(alloc: Global, fibers: &[FiberView]) -> Result<String, Memory>
-    ensures { IfOk result (λ line. string_bytes line ≡ run_line (main_state fibers.now)) }
+/// Writes how main ended, which stands so.
+fn put_end<K: Sink>(
+    main: Option<FiberState>,
+    buffer: &mut String,
+    out: &mut K,
+) -> Result<(), ReportRefusal>
+    ensures { Puts (K.taken out.old) (K.taken out.new) (K.fault_count out.old) (K.fault_count out.new)
+        (run_line main) result }
 {
-    match main_state(fibers) {
+    match main {
         Some(FiberState::Ended(Outcome::Cancelled(code))) => {
-            Ok(format!(in alloc; "run raised {code}\n")?)
+            put_line(format_args!("run raised {code}\n"), buffer, out)
         }
-        _ => Ok(String::from_str(alloc, "run done\n")?),
-    }
-}
-
-/// How the first fiber stands.
-fn main_state(fibers: &[FiberView]) -> Option<FiberState>
-    ensures { result ≡ main_state fibers.now }
-{
-    match fibers {
-        [main, ..] => Some(main.state),
-        [] => None,
+        _ => put_all(out, "run done\n".as_bytes()),
     }
 }

@@ -10,7 +10,7 @@ use Rattle.script_tree.specs.Denial.{Denies}
 use Rattle.script_tree.specs.Grammar.{grammar}
 use Rattle.pic_io.specs.Faults.{Rose}
 use Rattle.pic_io.specs.Held.{Held, Gives, IsLongerThan, holds}
-use Rattle.pic_machine.specs.declared.entry.Happened.{Happened}
+use Rattle.pic_machine.specs.Happened.{Happened}
 use Rattle.pic_machine.specs.State.{State}
 use Rattle.pic_machine.specs.History.{world}
 use Rattle.pic_run.specs.declared.answer.Answer.{Answer}

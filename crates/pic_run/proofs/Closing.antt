@@ -1,17 +1,20 @@
 -- From what is left of the port, once a run is over, to what is told of the run.
-use Rattle.std.proofs.Common.{◌≡◌, ◌≢◌, ℕ, zero, suc, ◌+◌, ◌<◌, ◌≤◌, ◌⊎◌, inl, inr, Bool, Option, Some, None, List, [], ◌∷◌, length, slice_get, get_or, refl, sym, ap, subst, ◌∙◌, arith}
-use Rattle.std.specs.Prelude.{All}
+use Rattle.std.proofs.Common.{◌≡◌, ◌≢◌, ℕ, zero, suc, ◌+◌, ◌<◌, ◌≤◌, ◌⊎◌, inl, inr, Bool, true, false, Option, Some, None, List, [], ◌∷◌, length, slice_get, get_or, refl, sym, ap, subst, ◌∙◌, arith}
+use Rattle.std.specs.Prelude.{All, Vec}
+use Rattle.std.specs.Bool.{then_some}
+use Rattle.std.specs.Global.{Global}
 use Rattle.std.proofs.lemmas.Option.{slice_get_cases}
 use Rattle.pic_base.specs.declared.outcome.Outcome.TheVariants.{Returned, Cancelled}
 use Rattle.pic_machine.specs.declared.birth.Birth.{Birth}
 use Rattle.pic_machine.specs.declared.closed.Closed.{Closed}
-use Rattle.pic_machine.specs.declared.entry.Happened.{Happened}
+use Rattle.pic_machine.specs.declared.entry.Entry.{Entry}
+use Rattle.pic_machine.specs.Happened.{Happened}
 use Rattle.pic_machine.specs.declared.state.FiberState.{FiberState}
 use Rattle.pic_machine.specs.declared.state.FiberState.TheVariants.{Live, Ended}
 use Rattle.pic_machine.specs.State.{State}
 use Rattle.pic_machine.specs.Final.{IsFinal}
 use Rattle.pic_machine.specs.History.{Origin, IsLegal, birth_in, world}
-use Rattle.pic_machine.specs.Log.{log}
+use Rattle.pic_machine.specs.Log.{entries, log}
 use Rattle.pic_machine.specs.Home.{IsHome}
 use Rattle.pic_machine.proofs.Fresh.{birth_of_made, fibers_grow}
 use Rattle.port_plain.specs.Shown.{Shown as Port, sight_of}
@@ -25,7 +28,7 @@ use Rattle.pic_run.specs.Run.{IsRunOf, origin}
 use Rattle.pic_run.specs.Over.{IsOver, IsReportOf}
 use Rattle.pic_report.specs.declared.view.FiberView.{FiberView}
 use Rattle.pic_report.specs.Report.{report}
-use Rattle.pic_report.specs.View.{IsFiberView, IsLeftOf, IsViewOf, main_state, view_text}
+use Rattle.pic_report.specs.View.{IsFiberView, IsLeftOf, IsTraceOf, IsViewOf, main_state, view_text}
 use Rattle.pic_run.specs.declared.limits.TheConstants.{LIMITS}
 use Rattle.fiber_body.specs.Starts.{start_of}
 use Rattle.std.specs.Arc.{arc_value}
@@ -54,6 +57,13 @@ main_seen [] [] count are = refl
 main_seen [] (state ∷ states) count are = absurd (omega (arith, count))
 main_seen (view ∷ views) [] count are = absurd (omega (arith, count))
 main_seen (view ∷ views) (state ∷ states) count are = ap Some (are 0 state view refl refl).state_is
+
+-- ---- the trace
+
+-- the entries that the port hands over are the trace, where it is asked for
+pub trace_of_stored : (hs : List Happened) (traced : Bool) (stored : Vec Entry Global) (trace : Option (Vec Entry Global)) → stored.items ≡ entries hs → trace ≡ then_some traced stored → IsTraceOf hs traced trace
+trace_of_stored hs true stored trace are is = subst (IsTraceOf hs true) (sym is) (refl, are)
+trace_of_stored hs false stored trace are is = subst (IsTraceOf hs false) (sym is) refl
 
 -- ---- the run
 

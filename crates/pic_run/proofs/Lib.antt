@@ -1,4 +1,3 @@
 pub mod Opening
 pub mod Closing
-pub mod Words
 pub mod Calls

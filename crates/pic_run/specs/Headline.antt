@@ -4,7 +4,7 @@ use Rattle.std.specs.Io.KnownBytes.{Appends}
 use Rattle.pic_io.specs.Faults.{Rose}
 use Rattle.pic_io.specs.Held.{Held, Gives, IsLongerThan}
 use Rattle.pic_machine.specs.declared.birth.Birth.{Birth}
-use Rattle.pic_machine.specs.declared.entry.Happened.{Happened}
+use Rattle.pic_machine.specs.Happened.{Happened}
 use Rattle.pic_machine.specs.History.{IsLegal, birth_in, world}
 use Rattle.pic_machine.specs.Log.{log}
 use Rattle.pic_machine.specs.Final.{IsFinal}

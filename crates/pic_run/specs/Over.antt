@@ -2,7 +2,7 @@
 -- these words.
 use Rattle.std.specs.Prelude.{◌≡◌, Bool, Some, None, List, []}
 use Rattle.std.specs.Arc.{arc_value}
-use Rattle.pic_machine.specs.declared.entry.Happened.{Happened}
+use Rattle.pic_machine.specs.Happened.{Happened}
 use Rattle.pic_machine.specs.Final.{IsFinal}
 use Rattle.pic_machine.specs.History.{origin_of, world}
 use Rattle.pic_machine.specs.Order.{IsInFifoOrder}

@@ -1,7 +1,7 @@
 -- The runs of a script: which histories of the machine are one.
 use Rattle.std.specs.Prelude.{◌≡◌, ℕ, Some, List}
 use Rattle.pic_machine.specs.declared.birth.Birth.{Birth}
-use Rattle.pic_machine.specs.declared.entry.Happened.{Happened}
+use Rattle.pic_machine.specs.Happened.{Happened}
 use Rattle.pic_machine.specs.History.{Origin, origin_of, IsLegal, birth_in, world}
 use Rattle.pic_machine.specs.Log.{log}
 use Rattle.pic_machine.specs.Final.{IsFinal}

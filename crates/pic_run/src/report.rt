@@ -1,16 +1,14 @@
 //! What is told of a run that is over.
-ghost use Rattle.std.specs.Prelude.{◌≡◌, Some, IfOk};
+ghost use Rattle.std.specs.Prelude.{◌≡◌, IfOk};
 ghost use Rattle.std.specs.Arc.{arc_value};
-ghost use Rattle.pic_machine.specs.Log.{entries};
-ghost use Rattle.pic_report.specs.View.{IsTraceOf, main_state};
 ghost use Rattle.pic_run.specs.Over.{IsOver, IsReportOf};
 ghost use Rattle.pic_run.specs.Status.{status_of};
 
 use crate::status::Status;
 use fiber_body::Body;
 use pic_base::{Memory, Outcome};
-use pic_machine::{Entry, FiberState, Happened};
-use pic_report::{FiberView, RunView, view_of};
+use pic_machine::FiberState;
+use pic_report::{RunView, view_of};
 use port_plain::PlainPort;
 use script_tree::Program;
 use std::alloc::Global;
@@ -36,13 +34,12 @@ pub(crate) fn report_of(
     requires { IsOver (arc_value program) port }
     ensures { IfOk result (IsReportOf (arc_value program) port.front trace log) }
 {
-    // The bodies are had by closing the port, so the trace is copied before.
-    let trace = trace_of(alloc, port.history(), trace)?;
-    let Ok(closed) = port.close() else {
+    let Ok((closed, history)) = port.close_with_history() else {
         return Err(Memory);
     };
+    let trace = trace.then_some(history);
     let view = view_of(alloc, closed, trace, log)?;
-    let status = status_of(view.fibers.as_slice());
+    let status = status_of(view.main_state());
     Ok(Report {
         program,
         view,
@@ -50,43 +47,12 @@ pub(crate) fn report_of(
     })
 }
 
-/// The entries of the history, where they are asked for.
-fn trace_of(alloc: Global, history: &[Happened], traced: bool) -> Result<Option<Vec<Entry>>, Memory>
-    ensures { IfOk result (IsTraceOf history.now traced) }
-{
-    if !traced {
-        return Ok(None);
-    }
-    Ok(Some(entries_of(alloc, history)?))
-}
-
-/// The entries of the history.
-fn entries_of(alloc: Global, history: &[Happened]) -> Result<Vec<Entry>, Memory>
-    ensures { IfOk result (λ copied. copied.items ≡ entries history.now) }
-{
-    let mut entries = Vec::new(alloc);
-    for happened in history {
-        entries.push(happened.entry)?;
-    }
-    Ok(entries)
-}
-
-/// The status that tells how main ended.
-fn status_of(fibers: &[FiberView]) -> Status
-    ensures { result ≡ status_of (main_state fibers.now) }
-{
-    match fibers {
-        [main, ..] => status_of_state(main.state),
-        [] => Status::Done,
-    }
-}
-
-/// The same by how main stands.
-fn status_of_state(main: FiberState) -> Status
-    ensures { result ≡ status_of (Some main) }
+/// The status that tells how main ended, which stands so.
+fn status_of(main: Option<FiberState>) -> Status
+    ensures { result ≡ status_of main }
 {
     match main {
-        FiberState::Ended(Outcome::Cancelled(_)) => Status::Raised,
+        Some(FiberState::Ended(Outcome::Cancelled(_))) => Status::Raised,
         _ => Status::Done,
     }
 }

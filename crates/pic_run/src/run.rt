@@ -30,5 +30,6 @@ fn open(alloc: Global, program: &Arc<Program>) -> Result<PlainPort<Body>, Memory
 {
     let start = start_of(program, LIMITS);
     let main = Body::new(alloc, program, start.text, 0, 0)?;
-    PlainPort::open(alloc, &start, main, Body::clock(alloc))
+    let clock = Body::clock(alloc)?;
+    PlainPort::open(alloc, &start, main, clock)
 }

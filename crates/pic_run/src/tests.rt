@@ -299,8 +299,8 @@ fn calls_of(alloc: Global, script: &[u8]) -> Result<Vec<(FiberNo, Call)>, Fail> 
     let Ok(port) = run_program(alloc, &program) else {
         return Ok(calls);
     };
-    for happened in port.history() {
-        calls.push((happened.entry.fiber, happened.entry.call))?;
+    for entry in port.history() {
+        calls.push((entry.fiber, entry.call))?;
     }
     Ok(calls)
 }

@@ -7,7 +7,7 @@ use Rattle.pic_machine.specs.declared.state.FiberState.TheVariants.{Live}
 use Rattle.pic_machine.specs.declared.entry.Call.TheVariants.{Fork}
 use Rattle.pic_machine.specs.declared.entry.Reply.{Reply}
 use Rattle.pic_machine.specs.declared.entry.Reply.TheVariants.{Full, Made}
-use Rattle.pic_machine.specs.declared.entry.Happened.{Happened}
+use Rattle.pic_machine.specs.Happened.{Happened}
 use Rattle.pic_machine.specs.State.{State, world_at}
 use Rattle.pic_machine.specs.Step.{fork_reply, has_room, with_fiber}
 use Rattle.pic_machine.specs.History.{Follows, IsLegal, MayMake, event, forked, origin_of, world}

@@ -1,4 +1,6 @@
 pub mod Places
+pub mod Pairing
+pub mod Beginning
 pub mod Steps
 pub mod Keeping
 pub mod Lent

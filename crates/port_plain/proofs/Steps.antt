@@ -2,7 +2,7 @@
 use Rattle.std.proofs.Common.{◌≡◌, ◌≢◌, ℕ, zero, suc, ◌≤◌, Option, Some, List, sym, ap, subst, ◌∙◌, arith}
 use Rattle.pic_machine.specs.declared.entry.Call.{Call}
 use Rattle.pic_machine.specs.declared.entry.Reply.{Reply}
-use Rattle.pic_machine.specs.declared.entry.Happened.{Happened}
+use Rattle.pic_machine.specs.Happened.{Happened}
 use Rattle.pic_machine.specs.declared.world.Start.{Start}
 use Rattle.pic_machine.specs.State.{State}
 use Rattle.pic_machine.specs.Step.{Allowed, MakesNoFiber, reply_of}

@@ -3,7 +3,7 @@ use Rattle.std.proofs.Common.{◌≡◌, ℕ, ◌+◌, ◌≤◌, Option, Some, 
 use Rattle.std.proofs.lemmas.List.{map-append, length-map}
 use Rattle.std.proofs.lemmas.Option.{slice_get-map}
 use Rattle.pic_machine.specs.declared.closed.Closed.{Closed}
-use Rattle.pic_machine.specs.declared.entry.Happened.{Happened}
+use Rattle.pic_machine.specs.Happened.{Happened}
 use Rattle.pic_machine.specs.State.{State}
 use Rattle.pic_machine.specs.Sight.{Carry}
 use Rattle.port_plain.specs.Shown.{Shown, sight_of}

@@ -1,7 +1,7 @@
 -- What is left of a port whose work is done.
 use Rattle.std.specs.Prelude.{◌≡◌, ℕ, ◌+◌, Some, List, length, slice_get}
 use Rattle.pic_machine.specs.declared.closed.Closed.{Closed}
-use Rattle.pic_machine.specs.declared.entry.Happened.{Happened}
+use Rattle.pic_machine.specs.Happened.{Happened}
 use Rattle.pic_machine.specs.History.{IsLegal, world}
 use Rattle.pic_machine.specs.Sight.{Carry, Sight}
 use Rattle.pic_machine.specs.Home.{IsHome}

@@ -1,3 +1,4 @@
 pub mod Shown
+pub mod Paired
 pub mod Stored
 pub mod Closing

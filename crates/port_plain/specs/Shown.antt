@@ -1,11 +1,12 @@
 -- What contracts see of the port, and the sight that it gives of the machine.
-use Rattle.std.specs.Prelude.{◌≡◌, ℕ, ⊤, true, Option, Some, None, List, [], ◌∷◌, ◌++◌, map}
+use Rattle.std.specs.Prelude.{◌≡◌, ℕ, ⊤, true, Option, Some, None, List, [], ◌∷◌, ◌++◌, filter_map, map}
 use Rattle.std.specs.List.{flat_map}
 use Rattle.pic_base.specs.declared.duty.Duty.{Duty}
 use Rattle.pic_base.specs.declared.duty.Duty.TheVariants.{Signal}
+use Rattle.pic_machine.specs.declared.birth.Birth.{Birth}
 use Rattle.pic_machine.specs.declared.entry.Call.{Call}
 use Rattle.pic_machine.specs.declared.entry.Call.TheVariants as call
-use Rattle.pic_machine.specs.declared.entry.Happened.{Happened}
+use Rattle.pic_machine.specs.Happened.{Happened}
 use Rattle.pic_machine.specs.declared.world.Start.{Start}
 use Rattle.pic_machine.specs.declared.entry.Reply.{Reply}
 use Rattle.pic_machine.specs.declared.entry.Reply.TheVariants as reply
@@ -21,6 +22,10 @@ pub record Shown (B : Type 0) : Type 0 where
   pub main : B
   pub front : List Happened
   pub out : Option ℕ
+
+-- the births of the fibers that a history made, in order
+abbrev pub births_in : List Happened → List Birth
+births_in hs = filter_map (λ h. h.birth) hs
 
 -- ---- duties
 

@@ -1,6 +1,6 @@
 -- What the port stores beside what it shows. Only its invariant cites this.
 use Rattle.std.specs.Prelude.{◌≡◌, ℕ, ◌+◌, ◌-◌, ◌<◌, Option, Some, None, List, length, slice_get}
-use Rattle.pic_machine.specs.declared.entry.Happened.{Happened}
+use Rattle.pic_machine.specs.Happened.{Happened}
 use Rattle.pic_machine.specs.State.{CanStart, State}
 use Rattle.pic_machine.specs.History.{IsLegal, origin_of, world}
 use Rattle.pic_machine.specs.Sight.{Carry}

@@ -3,10 +3,11 @@ ghost use Rattle.pic_machine.specs.State.{CanStart};
 ghost use Rattle.pic_machine.specs.Final.{IsFinal};
 ghost use Rattle.pic_machine.specs.Step.{IsLive};
 ghost use Rattle.pic_machine.specs.History.{IsLegal, origin_of, world};
-ghost use Rattle.port_plain.specs.Shown.{IsMain, IsClock};
+ghost use Rattle.pic_machine.specs.Log.{entries};
+ghost use Rattle.port_plain.specs.Shown.{IsMain, IsClock, births_in};
 
 use pic_base::{FiberNo, Memory};
-use pic_machine::{Carried, Happened, Start, World};
+use pic_machine::{Birth, Carried, Entry, Start, World};
 use std::alloc::Global;
 use std::marker::Model;
 use std::snapshot::Snapshot;
@@ -24,7 +25,9 @@ pub struct PlainPort<B: Carried> {
     start: Start,
     main: Snapshot<B>,
     world: World,
-    history: Vec<Happened>,
+    history: Vec<Entry>,
+    /// Apart from the history, since few of its entries make a fiber.
+    births: Vec<Birth>,
     bodies: Vec<Option<B>>,
     clock: B,
     out: Option<FiberNo>,
@@ -32,6 +35,7 @@ pub struct PlainPort<B: Carried> {
 
 impl<B: Carried> Model for PlainPort<B> {
     ghost use Rattle.port_plain.specs.Shown.{Shown};
+    ghost use Rattle.port_plain.specs.Paired.{HasEachBirth, paired};
     ghost use Rattle.port_plain.specs.Stored.{IsStored};
 
     ghost Value = { Shown B };
@@ -39,13 +43,14 @@ impl<B: Carried> Model for PlainPort<B> {
     ghost view = { λ port. record {
       start = port.start;
       main = port.main.value;
-      front = port.history.items;
+      front = paired port.history.items port.births.items;
       out = port.out;
     } };
 
     ghost invariant = { λ port. IsStored B.seen B.fits
-        (record { start = port.start; main = port.main.value; front = port.history.items; out = port.out })
-        port.world port.bodies.items port.clock };
+        (record { start = port.start; main = port.main.value; front = paired port.history.items port.births.items; out = port.out })
+        port.world port.bodies.items port.clock
+        × HasEachBirth port.history.items port.births.items };
 }
 
 impl<B: Carried> PlainPort<B> {
@@ -57,11 +62,18 @@ impl<B: Carried> PlainPort<B> {
         &self.world
     }
 
-    /// What happened so far, the births of fibers beside the forks that made them.
-    pub fn history(&self) -> &[Happened]
-        ensures { result.now ≡ self.now.front }
+    /// The entries of all that happened so far.
+    pub fn history(&self) -> &[Entry]
+        ensures { result.now ≡ entries self.now.front }
     {
         self.history.as_slice()
+    }
+
+    /// The births of the fibers that were made so far, in order. Main wasn't made by an entry.
+    pub fn births(&self) -> &[Birth]
+        ensures { result.now ≡ births_in self.now.front }
+    {
+        self.births.as_slice()
     }
 
     /// Whether the fiber is live.

@@ -117,7 +117,7 @@ fn a_body_goes_out_and_comes_back(rt: HostRuntime) -> Result<(), Fail> {
     assert!(rt; port.lay(main, false).is_ok());
     assert_eq!(rt; port.history().len(), 1);
     assert_eq!(rt;
-        port.history()[0].entry,
+        port.history()[0],
         Entry {
             fiber: 1,
             call: Call::Turn,
@@ -163,12 +163,21 @@ fn a_child_is_made_and_both_end(rt: HostRuntime) -> Result<(), Fail> {
     };
     assert_eq!(rt; number, 2);
     assert_eq!(rt;
-        port.history()[1].birth,
-        Some(Birth {
+        port.history()[1],
+        Entry {
+            fiber: 1,
+            call: Call::Fork { text: 5, value: 7 },
+            reply: Reply::Made(2)
+        }
+    );
+    assert_eq!(rt; port.births().len(), 1);
+    assert_eq!(rt;
+        port.births()[0],
+        Birth {
             text: 5,
             value: 7,
             current: 0
-        })
+        }
     );
     end_fiber(&mut port, main)?;
     assert!(rt; port.idle() == Ok(Idle::Busy));
@@ -177,9 +186,18 @@ fn a_child_is_made_and_both_end(rt: HostRuntime) -> Result<(), Fail> {
     };
     end_fiber(&mut port, child)?;
     assert!(rt; port.idle() == Ok(Idle::Over));
-    let Ok(closed) = port.close() else {
+    let Ok((closed, history)) = port.close_with_history() else {
         return Err(Memory.into());
     };
     assert_eq!(rt; closed.bodies.len(), 2);
+    assert_eq!(rt; history.len(), 5);
+    assert_eq!(rt;
+        history[4],
+        Entry {
+            fiber: 2,
+            call: Call::End(Outcome::Returned(7)),
+            reply: Reply::Plain
+        }
+    );
     Ok(())
 }

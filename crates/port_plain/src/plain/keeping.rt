@@ -8,7 +8,7 @@ ghost use Rattle.port_plain.specs.Shown.{NoFiber, sight_of, with_entry};
 
 use super::{PlainPort, reply};
 use pic_base::{FiberNo, Memory, Value};
-use pic_machine::{Call, Carried, Happened, PortFault, Reply};
+use pic_machine::{Call, Carried, Entry, PortFault, Reply};
 
 impl<B: Carried> PlainPort<B> {
     /// Makes a call of the fiber whose body is out, and stores the entry.
@@ -26,8 +26,7 @@ impl<B: Carried> PlainPort<B> {
         // Room first, so that an entry is stored wherever its call was made.
         self.history.reserve(1)?;
         let reply = self.world.apply(fiber, call)?;
-        self.history
-            .push_reserved(Happened::event(fiber, call, reply));
+        self.history.push_reserved(Entry { fiber, call, reply });
         Ok(reply)
     }
 
@@ -81,26 +80,25 @@ impl<B: Carried> PlainPort<B> {
         ensures back { IfErr result (λ refused. refused.0 ≡ child) }
     {
         let mut child = child;
-        // Room first, so that the entry is stored, and the child kept, wherever the fiber was made.
-        if self.history.reserve(1).is_err() || self.bodies.reserve(1).is_err() {
+        // Room first, so that the entry and the birth are stored, and the child kept, wherever the fiber
+        // was made.
+        if self.history.reserve(1).is_err()
+            || self.births.reserve(1).is_err()
+            || self.bodies.reserve(1).is_err()
+        {
             return Err((child, PortFault::Memory));
         }
         let call = Call::Fork { text, value };
         let Ok(reply) = self.world.apply(fiber, call) else {
             return Err((child, PortFault::Memory));
         };
+        self.history.push_reserved(Entry { fiber, call, reply });
         match reply::made(reply) {
-            None => {
-                self.history
-                    .push_reserved(Happened::event(fiber, call, reply));
-                Err((child, PortFault::Full))
-            }
+            None => Err((child, PortFault::Full)),
             Some(number) => {
-                let birth = child.birth();
+                self.births.push_reserved(child.birth());
                 child.number(number);
                 self.bodies.push_reserved(Some(child));
-                self.history
-                    .push_reserved(Happened::forked(fiber, number, birth));
                 Ok(number)
             }
         }

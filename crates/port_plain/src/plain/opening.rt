@@ -1,12 +1,13 @@
 //! How a port begins, and what it leaves.
 ghost use Rattle.std.specs.Prelude.{◌≡◌, ◌≤◌, ◌∷◌, ℕ, [], Some, None, IfErr, IfOk, map, slice_get, vec_len, vec_capacity};
 ghost use Rattle.pic_machine.specs.State.{CanStart};
+ghost use Rattle.pic_machine.specs.Log.{entries};
 ghost use Rattle.port_plain.specs.Closing.{IsLeft};
 ghost use Rattle.port_plain.specs.Shown.{IsClock, IsMain, sight_of};
 
 use super::PlainPort;
 use pic_base::Memory;
-use pic_machine::{Carried, Closed, Start, World};
+use pic_machine::{Carried, Closed, Entry, Start, World};
 use std::alloc::Global;
 use std::snapshot::Snapshot;
 
@@ -31,6 +32,7 @@ impl<B: Carried> PlainPort<B> {
             main: of_main,
             world: World::start(alloc, start)?,
             history: Vec::new(alloc),
+            births: Vec::new(alloc),
             bodies,
             clock,
             out: None,
@@ -43,20 +45,33 @@ impl<B: Carried> PlainPort<B> {
         ensures left { IfOk result (IsLeft B.seen B.fits (sight_of B.seen self)) }
         ensures err { IfErr result (λ port. port ≡ self) }
     {
+        let (closed, _) = self.close_with_history()?;
+        Ok(closed)
+    }
+
+    /// The same, and beside it the entries of all that happened, which aren't copied.
+    pub fn close_with_history(self) -> Result<(Closed<B>, Vec<Entry>), PlainPort<B>>
+        requires { self.out ≡ None }
+        ensures left { IfOk result (λ left. IsLeft B.seen B.fits (sight_of B.seen self) left.0) }
+        ensures history { IfOk result (λ left. left.1.items ≡ entries self.front) }
+        ensures err { IfErr result (λ port. port ≡ self) }
+    {
         let mut bodies = Vec::new(self.alloc);
         if bodies.reserve(self.bodies.len()).is_err() {
             return Err(self);
         }
         let PlainPort {
+            history,
             bodies: places,
             clock,
             ..
         } = self;
-        Ok(Closed {
+        let closed = Closed {
             bodies: all_there(places, bodies),
             clock,
             now: 0,
-        })
+        };
+        Ok((closed, history))
     }
 }
 

@@ -1,6 +1,6 @@
 use Rattle.std.proofs.Common.{◌≡◌, ◌≢◌, ◌+◌, ◌-◌, ◌≤◌, Some, List, vec_capacity, vec_len}
 use Rattle.pic_base.specs.declared.limits.TheConstants.{STEPS}
-use Rattle.pic_machine.specs.declared.entry.Happened.{Happened}
+use Rattle.pic_machine.specs.Happened.{Happened}
 use Rattle.pic_machine.specs.Log.{visible}
 use Rattle.pic_machine.specs.Order.{turns_over}
 use Rattle.pic_machine.specs.Sight.{Carry, nothing}

@@ -3,7 +3,7 @@ use Rattle.pic_base.specs.declared.limits.TheConstants.{STEPS}
 use Rattle.pic_base.specs.declared.outcome.Outcome.TheVariants.{Returned}
 use Rattle.pic_machine.specs.declared.entry.Call.TheVariants as call
 use Rattle.pic_machine.specs.declared.entry.Reply.TheVariants as reply
-use Rattle.pic_machine.specs.declared.entry.Happened.{Happened}
+use Rattle.pic_machine.specs.Happened.{Happened}
 use Rattle.pic_machine.specs.History.{event}
 use Rattle.pic_machine.specs.Log.{log, visible}
 use Rattle.pic_machine.specs.Order.{turns_over}

@@ -9,9 +9,9 @@ use Rattle.pic_report.proofs.Parts.{told_from}
 use Rattle.pic_report.proofs.Putting.{puts_on, puts_then}
 use Rattle.pic_report.proofs.comps.put_comps.Goals as goal
 
-pub returns-in_err-put_line : goal.returns-in_err-put_line
-returns-in_err-put_line g c =
-    let p = err_from_is_err_and c.from_residual-in_err-put_line.result c.from_residual-in_err-put_line.ensures.1 in
+pub returns-in_err-put_comp : goal.returns-in_err-put_comp
+returns-in_err-put_comp g c =
+    let p = err_from_is_err_and c.from_residual-in_err-put_comp.result c.from_residual-in_err-put_comp.ensures.1 in
     let names = declared_names c.args.program.now in
     let es = all_entries c.args.view.now in
     let i = c.loop-number.number in
@@ -20,8 +20,8 @@ returns-in_err-put_line g c =
     let within : i < length c.in_ok-found.found.items = omega (arith, ap (λ (ks : List (Option Completion)). length ks) c.deref-by-items.ensures.value) in
     let by : get_or c.deref-by-items.result.now i None ≡ completion es i = ap (λ (ks : List (Option Completion)). get_or ks i None) c.deref-by-items.ensures.value ∙ c.in_ok-found.ensures.each i (omega (arith, within, c.in_ok-found.ensures.count)) in
     rw (p.1, p.2)
-    (puts_then (comp_line names i (completion es i) (comp_state (completion es i))) (joined (told_lines names es (i + 1) (count - (i + 1)))) c.in_err-put_line.field-0.0 c.loop-number.invariant (told_from names es i count (omega (arith, within, size)))
-    (c.in_err-put_line.ensures (comp_line names i (completion es i) (comp_state (completion es i))) (rw by at c.comp_line.ensures)))
+    (puts_then (comp_line names i (completion es i) (comp_state (completion es i))) (joined (told_lines names es (i + 1) (count - (i + 1)))) c.in_err-put_comp.field-0.0 c.loop-number.invariant (told_from names es i count (omega (arith, within, size)))
+    (rw by at c.in_err-put_comp.ensures))
 
 pub loop-number-preserved : goal.loop-number-preserved
 loop-number-preserved g c =
@@ -33,4 +33,4 @@ loop-number-preserved g c =
     let within : i < length c.in_ok-found.found.items = omega (arith, ap (λ (ks : List (Option Completion)). length ks) c.deref-by-items.ensures.value) in
     let by : get_or c.deref-by-items.result.now i None ≡ completion es i = ap (λ (ks : List (Option Completion)). get_or ks i None) c.deref-by-items.ensures.value ∙ c.in_ok-found.ensures.each i (omega (arith, within, c.in_ok-found.ensures.count)) in
     puts_on (comp_line names i (completion es i) (comp_state (completion es i))) (joined (told_lines names es (i + 1) (count - (i + 1)))) c.loop-number.invariant (told_from names es i count (omega (arith, within, size)))
-    (c.in_ok-put_line.ensures (comp_line names i (completion es i) (comp_state (completion es i))) (rw by at c.comp_line.ensures))
+    (rw by at c.in_ok-put_comp.ensures)

@@ -7,18 +7,17 @@ use Rattle.pic_report.proofs.Parts.{viewed_parts}
 use Rattle.pic_report.proofs.Putting.{put_none, puts_last, puts_on, puts_then}
 use Rattle.pic_report.proofs.fibers.put_fiber.Goals as goal
 
-pub returns-in_err-put_line : goal.returns-in_err-put_line
-returns-in_err-put_line g c =
+pub returns-in_err-put_state : goal.returns-in_err-put_state
+returns-in_err-put_state g c =
     let p = err_from_is_err_and c.from_residual.result c.from_residual.ensures.1 in
     let names = text_names c.args.program.now in
     let view = c.args.fiber.now in
     let line = fiber_line (text_name names view.text) c.args.number view.state in
     let says = joined (says_of view.entries.items) in
     let logs = joined (log_lines names c.args.log view.entries.items) in
-    let made = rw c.text_name-name.ensures at c.fiber_line.ensures in
     rw (p.1, p.2)
-    (puts_then line (says ++ logs) c.in_err-put_line.field-0.0 (put_none (g.K.Sink.taken c.args.out.now) (g.K.Sink.fault_count c.args.out.now) (joined (viewed_lines names c.args.log c.args.number view)))
-    (viewed_parts names c.args.log c.args.number view) (c.in_err-put_line.ensures line made))
+    (puts_then line (says ++ logs) c.in_err-put_state.field-0.0 (put_none (g.K.Sink.taken c.args.out.now) (g.K.Sink.fault_count c.args.out.now) (joined (viewed_lines names c.args.log c.args.number view)))
+    (viewed_parts names c.args.log c.args.number view) (rw c.text_name-name.ensures at c.in_err-put_state.ensures))
 
 pub returns-in_err-put_says : goal.returns-in_err-put_says
 returns-in_err-put_says g c =
@@ -28,11 +27,10 @@ returns-in_err-put_says g c =
     let line = fiber_line (text_name names view.text) c.args.number view.state in
     let says = joined (says_of view.entries.items) in
     let logs = joined (log_lines names c.args.log view.entries.items) in
-    let made = rw c.text_name-name.ensures at c.fiber_line.ensures in
     rw (p.1, p.2)
     (puts_then says logs c.in_err-put_says.field-0.0
     (puts_on line (says ++ logs) (put_none (g.K.Sink.taken c.args.out.now) (g.K.Sink.fault_count c.args.out.now) (joined (viewed_lines names c.args.log c.args.number view)))
-    (viewed_parts names c.args.log c.args.number view) (c.in_ok-put_line.ensures line made))
+    (viewed_parts names c.args.log c.args.number view) (rw c.text_name-name.ensures at c.in_ok-put_state.ensures))
     refl (rw c.as_slice.ensures.value at c.in_err-put_says.ensures))
 
 pub returns : goal.returns
@@ -42,10 +40,9 @@ returns g c =
     let line = fiber_line (text_name names view.text) c.args.number view.state in
     let says = joined (says_of view.entries.items) in
     let logs = joined (log_lines names c.args.log view.entries.items) in
-    let made = rw c.text_name-name.ensures at c.fiber_line.ensures in
     puts_last c.put_log.result
     (puts_on says logs
     (puts_on line (says ++ logs) (put_none (g.K.Sink.taken c.args.out.now) (g.K.Sink.fault_count c.args.out.now) (joined (viewed_lines names c.args.log c.args.number view)))
-    (viewed_parts names c.args.log c.args.number view) (c.in_ok-put_line.ensures line made))
+    (viewed_parts names c.args.log c.args.number view) (rw c.text_name-name.ensures at c.in_ok-put_state.ensures))
     refl (rw c.as_slice.ensures.value at c.in_ok-put_says.ensures))
     (rw c.as_slice-2.ensures.value at c.put_log.ensures)

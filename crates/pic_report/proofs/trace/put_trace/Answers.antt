@@ -8,17 +8,17 @@ use Rattle.pic_report.specs.Report.{joined, text_names, trace_line}
 use Rattle.pic_report.proofs.Putting.{lines_from, puts_on, puts_then}
 use Rattle.pic_report.proofs.trace.put_trace.Goals as goal
 
-pub returns-in_err-put_line : goal.returns-in_err-put_line
-returns-in_err-put_line g c =
+pub returns-in_err-put_trace_line : goal.returns-in_err-put_trace_line
+returns-in_err-put_trace_line g c =
     let p = err_from_is_err_and c.from_residual.result c.from_residual.ensures.1 in
     let i = c.loop-entry.entry-index in
     let none : Entry = record { fiber = 0; call = Turn; reply = Plain } in
     let e = get_or c.args.entries.now i none in
     let line = trace_line (text_names c.args.program.now) in
     rw (p.1, p.2)
-    (puts_then (line e) (joined (map line (drop (i + 1) c.args.entries.now))) c.in_err-put_line.field-0.0 c.loop-entry.invariant
+    (puts_then (line e) (joined (map line (drop (i + 1) c.args.entries.now))) c.in_err-put_trace_line.field-0.0 c.loop-entry.invariant
     (lines_from line c.args.entries.now i e (omega arith) (get_or_default c.args.entries.now i none e (omega arith)))
-    (c.in_err-put_line.ensures (line e) c.trace_line.ensures))
+    c.in_err-put_trace_line.ensures)
 
 pub loop-entry-preserved : goal.loop-entry-preserved
 loop-entry-preserved g c =
@@ -28,4 +28,4 @@ loop-entry-preserved g c =
     let line = trace_line (text_names c.args.program.now) in
     puts_on (line e) (joined (map line (drop (i + 1) c.args.entries.now))) c.loop-entry.invariant
     (lines_from line c.args.entries.now i e (omega arith) (get_or_default c.args.entries.now i none e (omega arith)))
-    (c.in_ok-put_line.ensures (line e) c.trace_line.ensures)
+    c.in_ok-put_trace_line.ensures

@@ -62,9 +62,9 @@ returns-in_err-put_comps g c =
     rw (p.1, p.2)
     (puts_then comps (clock ++ ran) c.in_err-put_comps.field-0.0 (puts_on fibers (comps ++ (clock ++ ran)) (puts_on traced (fibers ++ (comps ++ (clock ++ ran))) (puts_on heading (traced ++ (fibers ++ (comps ++ (clock ++ ran)))) (put_none (g.K.Sink.taken c.args.out.now) (g.K.Sink.fault_count c.args.out.now) (view_text script view)) (view_parts script view) (rw c.as_bytes.ensures.value at c.in_ok-put_all.ensures)) refl c.in_ok-put_traced.ensures) refl (rw c.as_slice.ensures.value at c.in_ok-put_fibers.ensures)) refl c.in_err-put_comps.ensures)
 
-pub returns-in_err-put_line : goal.returns-in_err-put_line
-returns-in_err-put_line g c =
-    let p = err_from_is_err_and c.from_residual-in_err-put_line.result c.from_residual-in_err-put_line.ensures.1 in
+pub returns-in_err-put_clock : goal.returns-in_err-put_clock
+returns-in_err-put_clock g c =
+    let p = err_from_is_err_and c.from_residual-in_err-put_clock.result c.from_residual-in_err-put_clock.ensures.1 in
     let script = c.args.program.now in
     let view = c.args.view.now in
     let heading = codes "picos report 1\n" in
@@ -74,7 +74,7 @@ returns-in_err-put_line g c =
     let clock = clock_line view.now in
     let ran = run_line (main_state view.fibers.items) in
     rw (p.1, p.2)
-    (puts_then clock ran c.in_err-put_line.field-0.0 (puts_on comps (clock ++ ran) (puts_on fibers (comps ++ (clock ++ ran)) (puts_on traced (fibers ++ (comps ++ (clock ++ ran))) (puts_on heading (traced ++ (fibers ++ (comps ++ (clock ++ ran)))) (put_none (g.K.Sink.taken c.args.out.now) (g.K.Sink.fault_count c.args.out.now) (view_text script view)) (view_parts script view) (rw c.as_bytes.ensures.value at c.in_ok-put_all.ensures)) refl c.in_ok-put_traced.ensures) refl (rw c.as_slice.ensures.value at c.in_ok-put_fibers.ensures)) refl c.in_ok-put_comps.ensures) refl (c.in_err-put_line.ensures clock c.clock_line.ensures))
+    (puts_then clock ran c.in_err-put_clock.field-0.0 (puts_on comps (clock ++ ran) (puts_on fibers (comps ++ (clock ++ ran)) (puts_on traced (fibers ++ (comps ++ (clock ++ ran))) (puts_on heading (traced ++ (fibers ++ (comps ++ (clock ++ ran)))) (put_none (g.K.Sink.taken c.args.out.now) (g.K.Sink.fault_count c.args.out.now) (view_text script view)) (view_parts script view) (rw c.as_bytes.ensures.value at c.in_ok-put_all.ensures)) refl c.in_ok-put_traced.ensures) refl (rw c.as_slice.ensures.value at c.in_ok-put_fibers.ensures)) refl c.in_ok-put_comps.ensures) refl c.in_err-put_clock.ensures)
 
 pub returns : goal.returns
 returns g c =
@@ -86,4 +86,4 @@ returns g c =
     let comps = joined (told_lines (declared_names script) (all_entries view) 0 (length script.decls + 1)) in
     let clock = clock_line view.now in
     let ran = run_line (main_state view.fibers.items) in
-    puts_last c.put_line-2.result (puts_on clock ran (puts_on comps (clock ++ ran) (puts_on fibers (comps ++ (clock ++ ran)) (puts_on traced (fibers ++ (comps ++ (clock ++ ran))) (puts_on heading (traced ++ (fibers ++ (comps ++ (clock ++ ran)))) (put_none (g.K.Sink.taken c.args.out.now) (g.K.Sink.fault_count c.args.out.now) (view_text script view)) (view_parts script view) (rw c.as_bytes.ensures.value at c.in_ok-put_all.ensures)) refl c.in_ok-put_traced.ensures) refl (rw c.as_slice.ensures.value at c.in_ok-put_fibers.ensures)) refl c.in_ok-put_comps.ensures) refl (c.in_ok-put_line.ensures clock c.clock_line.ensures)) (c.put_line-2.ensures ran (rw c.as_slice-2.ensures.value at c.run_line.ensures))
+    puts_last c.put_end.result (puts_on clock ran (puts_on comps (clock ++ ran) (puts_on fibers (comps ++ (clock ++ ran)) (puts_on traced (fibers ++ (comps ++ (clock ++ ran))) (puts_on heading (traced ++ (fibers ++ (comps ++ (clock ++ ran)))) (put_none (g.K.Sink.taken c.args.out.now) (g.K.Sink.fault_count c.args.out.now) (view_text script view)) (view_parts script view) (rw c.as_bytes.ensures.value at c.in_ok-put_all.ensures)) refl c.in_ok-put_traced.ensures) refl (rw c.as_slice.ensures.value at c.in_ok-put_fibers.ensures)) refl c.in_ok-put_comps.ensures) refl c.in_ok-put_clock.ensures) (rw c.main_state.ensures at c.put_end.ensures)

@@ -1,13 +1,10 @@
-use Rattle.std.proofs.Common.{List, refl, ap, subst, ◌∙◌}
+use Rattle.std.proofs.Common.{refl, ap, ◌∙◌}
 use Rattle.std.specs.Arc.{arc_value}
-use Rattle.pic_machine.specs.declared.entry.Happened.{Happened}
 use Rattle.fiber_body.specs.Starts.{start_of}
-use Rattle.pic_report.specs.declared.view.FiberView.{FiberView}
-use Rattle.pic_report.specs.View.{IsTraceOf, main_state}
 use Rattle.pic_run.specs.declared.limits.TheConstants.{LIMITS}
 use Rattle.pic_run.specs.declared.report.Report.{Report}
 use Rattle.pic_run.specs.Status.{status_of}
-use Rattle.pic_run.proofs.Closing.{left_of_run, report_left}
+use Rattle.pic_run.proofs.Closing.{left_of_run, report_left, trace_of_stored}
 use Rattle.pic_run.proofs.report.report_of.Goals as goal
 
 pub returns : goal.returns
@@ -16,7 +13,7 @@ returns c =
     let start = start_of script LIMITS in
     let history = c.args.port.front in
     let left = left_of_run script c.args.port c.in-Ok.closed c.requires c.in-Ok.ensures.left in
-    let trace = subst (λ (hs : List Happened). IsTraceOf hs c.args.trace c.in_ok-trace.trace) c.history.ensures c.in_ok-trace.ensures in
+    let trace = trace_of_stored history c.args.trace c.in-Ok.history c.then_some-trace.result c.in-Ok.ensures.history c.then_some-trace.ensures in
     let made : Report = record { program = c.args.program; view = c.in_ok-view.view; status = c.status_of-status.result } in
     report_left script c.args.port c.in-Ok.closed c.requires c.in-Ok.ensures.left c.args.trace c.args.log made refl (c.in_ok-view.ensures.view start history c.args.trace left trace)
-    (c.in_ok-view.ensures.text script start history c.args.trace refl left trace) (c.status_of-status.ensures ∙ ap (λ (views : List FiberView). status_of (main_state views)) c.as_slice.ensures.value)
+    (c.in_ok-view.ensures.text script start history c.args.trace refl left trace) (c.status_of-status.ensures ∙ ap status_of c.main_state.ensures)

@@ -10,7 +10,7 @@ pub open-requires-clause-main : goal.open-requires-clause-main
 open-requires-clause-main c = new_main _ _ _ c.in_ok-main.ensures c.start_of-start.result refl
 
 pub open-requires-clause-clock : goal.open-requires-clause-clock
-open-requires-clause-clock c = new_clock _ _ _ c.clock.ensures
+open-requires-clause-clock c = new_clock _ _ _ c.in_ok-clock.ensures
 
 pub new-requires : goal.new-requires
 new-requires c = subst (λ (t : Tree). c.start_of-start.result.text < length t.texts) c.deref.ensures c.start_of-start.ensures.main

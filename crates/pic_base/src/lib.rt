@@ -6,16 +6,18 @@
 //! `specs/Outcome.antt` for what an outcome prints.
 #![tactic(auto)]
 
+mod action;
 mod duty;
 mod limits;
 mod memory;
 mod numbers;
 mod outcome;
 
+pub use action::Action;
 pub use duty::Duty;
 pub use limits::{Limits, STEPS};
 pub use memory::Memory;
-pub use numbers::{CompNo, FiberNo, TriggerNo, Value};
+pub use numbers::{CompNo, FiberNo, PlaceNo, TriggerNo, Value};
 pub use outcome::Outcome;
 
 #[cfg(test)]

@@ -3,6 +3,10 @@
 pub struct Limits {
     /// Fibers, main included and the clock not counted.
     pub fibers: u32,
+    /// Triggers, the declared ones included.
+    pub triggers: u32,
+    /// Places for attachments.
+    pub places: u32,
     /// Computations, the root included.
     pub comps: u32,
 }

@@ -9,5 +9,8 @@ pub type FiberNo = u32;
 /// The number of a computation, from 0: the root, then the declared ones in order.
 pub type CompNo = u32;
 
-/// The number of a trigger, from 0.
+/// The number of a trigger, from 0: the declared ones in order, then those that fibers make.
 pub type TriggerNo = u32;
+
+/// The number of a place for an attachment, from 0, as fibers make them.
+pub type PlaceNo = u32;

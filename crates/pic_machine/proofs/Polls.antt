@@ -10,9 +10,10 @@ use Rattle.pic_machine.specs.Order.{GoesOn, readied}
 use Rattle.pic_machine.specs.Sight.{Carry, Sight, Holds, IsSame, fiber_of}
 use Rattle.pic_machine.specs.Lending.{Kept, Refuses, Spared}
 use Rattle.pic_machine.specs.Turning.{Adds, EndsSo, Grew, Polled, Stopped, Went, YieldsSo}
+use Rattle.pic_machine.proofs.Lists.{each-append}
 use Rattle.pic_machine.proofs.Onward.{later_same, spared}
 use Rattle.pic_machine.proofs.Standing.{log_stays}
-use Rattle.pic_machine.proofs.Turns.{Adds-trans, Grew-trans, Went-trans, each-append, readied-append, rose_from, same_fiber, went_spared}
+use Rattle.pic_machine.proofs.Turns.{Adds-trans, Grew-trans, Went-trans, readied-append, rose_from, same_fiber, went_spared}
 
 -- a body that got room, and to which nothing happened
 pub went_same : {S : Type 0} (p : Sight S) (a b : Carry S) (line : Option (List ℕ)) → Holds p a → IsSame a b → b.owes ≡ a.owes → Went p p a b line line

@@ -1,6 +1,5 @@
 -- How a turn is put together, call by call, and how the turns of a port that is alone make the FIFO order.
 use Rattle.std.proofs.Common.{◌≡◌, ℕ, ◌≤◌, inl, inr, true, false, Option, Some, None, List, [], ◌∷◌, ◌++◌, refl, sym, ap, subst, ◌∙◌, append_assoc, append-nil, arith}
-use Rattle.std.specs.List.{AllByRecursion}
 use Rattle.std.proofs.lemmas.Grind.{flat_map-append}
 use Rattle.pic_machine.specs.declared.entry.Call.TheVariants as call
 use Rattle.pic_machine.specs.declared.entry.Reply.TheVariants as reply
@@ -11,12 +10,9 @@ use Rattle.pic_machine.specs.Order.{GoesOn, InFifo, IsOwn, IsTurn, Stops, readie
 use Rattle.pic_machine.specs.Sight.{Carry, Sight, Holds, fiber_of}
 use Rattle.pic_machine.specs.Lending.{Began, Grown, Later, Lent, Made, Rose, Spared}
 use Rattle.pic_machine.specs.Turning.{Adds, Grew, Stopped, Went}
+use Rattle.pic_machine.proofs.Lists.{each-append}
 use Rattle.pic_machine.proofs.Onward.{log_made}
 use Rattle.pic_machine.proofs.Standing.{log_stays}
-
-pub each-append : {A : Type 0} (P : A → Type 0) (xs ys : List A) → AllByRecursion P xs → AllByRecursion P ys → AllByRecursion P (xs ++ ys)
-each-append P [] ys p q = q
-each-append P (x ∷ xs) ys p q = (p.0, each-append P xs ys p.1 q)
 
 -- ---- counts and lines
 

@@ -1,25 +1,29 @@
 -- What duties ask of the fiber that owes them, and what is left of them after a call.
 use Rattle.std.specs.Prelude.{◌≡◌, Option, Some, List, [], ◌∷◌, ⊤}
 use Rattle.pic_base.specs.declared.duty.Duty.{Duty}
-use Rattle.pic_base.specs.declared.duty.Duty.TheVariants.{Follow, Cancel, Return}
+use Rattle.pic_base.specs.declared.duty.Duty.TheVariants.{Signal, Follow, Cancel, Return}
 use Rattle.pic_base.specs.declared.outcome.Outcome.TheVariants.{Returned, Cancelled}
 use Rattle.pic_machine.specs.declared.state.CompState.{CompState}
 use Rattle.pic_machine.specs.declared.state.CompState.TheVariants.{Done}
 use Rattle.pic_machine.specs.declared.entry.Call.{Call}
-use Rattle.pic_machine.specs.declared.entry.Call.TheVariants.{Turn, Complete, Peek}
+use Rattle.pic_machine.specs.declared.entry.Call.TheVariants as call
+use Rattle.pic_machine.specs.declared.entry.Call.TheVariants.{Turn, Look, Complete, Peek}
 
--- the call is the one that the duty asks for: a look at the computation that is followed, or the
--- completion that is owed. A duty to signal has no call yet
+-- the call is the one that the duty asks for: the signal, a look at the computation that is followed, or
+-- the completion that is owed
 abbrev pub Fulfils : Duty → Call → Type 0
+Fulfils (Signal t) (call.Signal trigger) = trigger ≡ t
 Fulfils (Follow from into) (Peek comp) = comp ≡ from
 Fulfils (Cancel into code) (Complete comp outcome) = (comp ≡ into) × (outcome ≡ Cancelled code)
 Fulfils (Return into branch) (Complete comp outcome) = (comp ≡ into) × (outcome ≡ Returned branch)
 Fulfils _ _ = ⊥
 
--- a fiber that owes may begin a turn, and else makes the call that fulfils its first duty
+-- a fiber that owes may begin a turn or look at a trigger, and else makes the call that fulfils its
+-- first duty: so one that ends, yields or is suspended owes nothing
 abbrev pub DutiesAllow : List Duty → Call → Type 0
 DutiesAllow [] call = ⊤
 DutiesAllow (duty ∷ duties) Turn = ⊤
+DutiesAllow (duty ∷ duties) (Look t) = ⊤
 DutiesAllow (duty ∷ duties) call = Fulfils duty call
 
 -- the clock makes nothing but what it owes

@@ -1,10 +1,13 @@
 -- Histories of the machine: lists of what happened, and which of them are legal.
-use Rattle.std.specs.Prelude.{◌≡◌, ℕ, ◌<◌, ◌==◌, if◌then◌else◌, Option, Some, None, List, [], ◌∷◌, ◌++◌, length}
+use Rattle.std.specs.Prelude.{◌≡◌, ℕ, ◌<◌, ◌==◌, if◌then◌else◌, ◌⊎◌, ⊤, Option, Some, None, List, [], ◌∷◌, ◌++◌, length}
+use Rattle.std.specs.List.{AllByRecursion}
 use Rattle.pic_machine.specs.declared.birth.Birth.{Birth}
 use Rattle.pic_machine.specs.declared.entry.Call.{Call}
-use Rattle.pic_machine.specs.declared.entry.Call.TheVariants.{Fork}
+use Rattle.pic_machine.specs.declared.entry.Call.TheVariants.{NewTrigger, NewPlace, Arm, Attach, Fork}
 use Rattle.pic_machine.specs.declared.entry.Reply.{Reply}
+use Rattle.pic_machine.specs.declared.entry.Reply.TheVariants as reply
 use Rattle.pic_machine.specs.declared.entry.Reply.TheVariants.{Made}
+use Rattle.pic_machine.specs.declared.entry.AttachReply.TheVariants as attach
 use Rattle.pic_machine.specs.Happened.{Happened}
 use Rattle.pic_machine.specs.declared.world.Start.{Start}
 use Rattle.pic_machine.specs.State.{State, world_at}
@@ -42,9 +45,28 @@ world_from w (h ∷ hs) = world_from (after w h.entry.fiber h.entry.call) hs
 abbrev pub world : Origin → List Happened → State
 world origin hs = world_from origin.world hs
 
--- fiber f may make the call after a history: the world there allows it
+-- fiber f made the trigger, or the place, by an entry of the history
+pub record HasMade (hs : List Happened) (f : ℕ) (call : Call) (n : ℕ) : Type 0 where
+  pub front : List Happened
+  pub back : List Happened
+  pub is : hs ≡ front ++ event f call (Made n) ∷ back
+
+-- the entry took the place
+abbrev pub Takes : ℕ → Happened → Type 0
+Takes p h = (c : ℕ) × (t : ℕ) × ((h.entry.call ≡ Attach p c t) × (h.entry.reply ≡ reply.Attached attach.Attached))
+
+-- an attachment takes a place that its own fiber made and that no attachment took before; a fiber arms a
+-- trigger that stands from the start, or one that it made itself
+abbrev pub NumbersFit : Origin → List Happened → ℕ → Call → Type 0
+NumbersFit origin hs f (Arm t action) = (t < length origin.world.triggers) ⊎ HasMade hs f NewTrigger t
+NumbersFit origin hs f (Attach p c t) = HasMade hs f NewPlace p × AllByRecursion (λ h. Takes p h → ⊥) hs
+NumbersFit origin hs f _ = ⊤
+
+-- fiber f may make the call after a history: the world there allows it, and its numbers are ones that it
+-- may use
 pub record MayMake (origin : Origin) (hs : List Happened) (f : ℕ) (call : Call) : Type 0 where
   pub allowed : Allowed (world origin hs) f call
+  pub numbers : NumbersFit origin hs f call
 
 -- the birth has what the fork says, and its computation stands
 pub record IsBirthOf (w : State) (text value : ℕ) (birth : Option Birth) : Type 0 where

@@ -2,9 +2,12 @@
 use Rattle.std.specs.Prelude.{◌≡◌, ℕ, Bool, true, false, List, [], ◌∷◌, ◌++◌, length, filter}
 use Rattle.std.specs.List.{AllByRecursion, flat_map}
 use Rattle.pic_machine.specs.declared.entry.Call.{Call}
-use Rattle.pic_machine.specs.declared.entry.Call.TheVariants.{Turn, Yield, Fork, End}
+use Rattle.pic_machine.specs.declared.entry.Call.TheVariants.{Turn, Yield, Arm, Signal, Fork, End}
 use Rattle.pic_machine.specs.declared.entry.Reply.{Reply}
-use Rattle.pic_machine.specs.declared.entry.Reply.TheVariants.{Plain, Made}
+use Rattle.pic_machine.specs.declared.entry.Reply.TheVariants.{Plain, Made, Armed, Signalled}
+use Rattle.pic_machine.specs.declared.entry.ArmReply.TheVariants.{Set}
+use Rattle.pic_machine.specs.declared.entry.SignalReply.TheVariants.{Acted}
+use Rattle.pic_base.specs.declared.action.Action.TheVariants.{Resume}
 use Rattle.pic_machine.specs.Happened.{Happened}
 use Rattle.pic_machine.specs.History.{event}
 use Rattle.pic_machine.specs.Log.{is_turn}
@@ -18,6 +21,7 @@ pub record IsOwn (f : ℕ) (h : Happened) : Type 0 where
 abbrev pub stops : Call → Reply → Bool
 stops Yield reply = true
 stops (End o) reply = true
+stops (Arm t (Resume g)) (Armed Set) = true
 stops _ _ = false
 
 -- the turn goes on behind the entry, or ends with it
@@ -31,6 +35,16 @@ Stops h = stops h.entry.call h.entry.reply ≡ true
 abbrev pub turns_over : List Happened → ℕ
 turns_over hs = length (filter (λ h. stops h.entry.call h.entry.reply) hs)
 
+-- the entries that end a turn without a wait
+abbrev pub yields : Call → Bool
+yields Yield = true
+yields (End o) = true
+yields _ = false
+
+-- how many of these entries do so
+abbrev pub yields_over : List Happened → ℕ
+yields_over hs = length (filter (λ h. yields h.entry.call) hs)
+
 -- the entries of one turn of fiber f: its own alone, of which the last and only the last ends it
 pub record IsTurn (f : ℕ) (hs : List Happened) : Type 0 where
   pub going : List Happened
@@ -40,10 +54,12 @@ pub record IsTurn (f : ℕ) (hs : List Happened) : Type 0 where
   pub on : AllByRecursion GoesOn going
   pub last : Stops final
 
--- the fibers that an entry makes ready: one that yields is ready again, and so is one that was made
+-- the fibers that an entry makes ready: one that yields is ready again, and so is one that was made, and
+-- one that waited for the trigger that was signalled
 abbrev pub readied_by : ℕ → Call → Reply → List ℕ
 readied_by f Yield reply = f ∷ []
 readied_by f (Fork text value) (Made g) = g ∷ []
+readied_by f (Signal t) (Signalled (Acted (Resume g))) = g ∷ []
 readied_by f _ _ = []
 
 -- the fibers that entries make ready, in the order of happening

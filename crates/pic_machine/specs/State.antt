@@ -4,16 +4,20 @@ use Rattle.pic_base.specs.declared.duty.Duty.{Duty}
 use Rattle.pic_base.specs.declared.limits.Limits.{Limits}
 use Rattle.pic_machine.specs.declared.state.CompState.{CompState}
 use Rattle.pic_machine.specs.declared.state.CompState.TheVariants.{Running}
+use Rattle.pic_machine.specs.declared.state.TrigState.{TrigState}
+use Rattle.pic_machine.specs.declared.state.TrigState.TheVariants.{Initial}
 use Rattle.pic_machine.specs.declared.state.FiberState.{FiberState}
 use Rattle.pic_machine.specs.declared.state.FiberState.TheVariants.{Live}
 use Rattle.pic_machine.specs.declared.world.Start.{Start}
 
--- the computations at their numbers, the fibers in order from fiber 1, what each fiber owes, at its
--- number, the clock's first, and the limits
+-- the triggers and the computations at their numbers, the fibers in order from fiber 1, what each fiber
+-- owes, at its number, the clock's first, how many places were made, and the limits
 pub record State : Type 0 where
+  pub triggers : List TrigState
   pub comps : List CompState
   pub fibers : List FiberState
   pub owed : List (List Duty)
+  pub places : ℕ
   pub limits : Limits
 
 -- what fiber f owes, the duty that it has to fulfil first in front
@@ -23,14 +27,18 @@ owed_of w f = slice_index_or w.owed f []
 -- a start that a world can be made of: the root stands, and all that stands is within the limits
 pub record CanStart (start : Start) : Type 0 where
   pub root : 1 ≤ start.comps
+  pub triggers : start.triggers ≤ start.limits.triggers
   pub comps : start.comps ≤ start.limits.comps
   pub main : 1 ≤ start.limits.fibers
 
--- every computation runs, main is the one fiber, and neither it nor the clock owes anything
+-- every trigger is initial, every computation runs with nothing attached, main is the one fiber, and
+-- neither it nor the clock owes anything
 abbrev pub world_at : Start → State
 world_at start = record {
-  comps = replicate start.comps Running;
+  triggers = replicate start.triggers Initial;
+  comps = replicate start.comps (Running []);
   fibers = Live ∷ [];
   owed = [] ∷ ([] ∷ []);
+  places = 0;
   limits = start.limits;
 }

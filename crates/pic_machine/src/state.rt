@@ -1,16 +1,30 @@
-use pic_base::{FiberNo, Outcome};
+use crate::attached::Attached;
+use pic_base::{Action, FiberNo, Outcome, TriggerNo};
 
-/// A computation: running, or completed once and for all (Picos: `Computation`).
+/// A trigger: at first nobody awaits it, then perhaps one does, and at last it is signalled, once and
+/// for all (Picos: `Trigger`).
 #[derive(Clone, Copy, Debug, PartialEq, Eq)]
+pub enum TrigState {
+    Initial,
+    /// Somebody awaits it, on whose behalf the signal does this.
+    Awaiting(Action),
+    Signalled,
+}
+
+/// A computation: running, with the triggers that its completion signals, or completed once and for all
+/// (Picos: `Computation`).
+#[derive(Drop)]
 pub enum CompState {
-    Running,
+    Running(Attached),
     Done(Outcome),
 }
 
-/// A fiber: it can make entries, or it has ended.
+/// A fiber: it can make entries, or waits for a trigger to be signalled, or has ended.
 #[derive(Clone, Copy, Debug, PartialEq, Eq)]
 pub enum FiberState {
     Live,
+    /// It goes on once this trigger is signalled.
+    Suspended(TriggerNo),
     Ended(Outcome),
 }
 

@@ -1,17 +1,24 @@
 use super::*;
-use pic_base::{Limits, Outcome};
+use pic_base::{Action, Limits, Outcome};
 use std::test::Fail;
+
+/// A start with one trigger and two computations, where one more fiber, one more trigger and one place
+/// may be made.
+const START: Start = Start {
+    triggers: 1,
+    comps: 2,
+    text: 0,
+    limits: Limits {
+        fibers: 2,
+        triggers: 2,
+        places: 1,
+        comps: 2,
+    },
+};
 
 #[test]
 fn a_computation_is_completed_once(rt: HostRuntime) -> Result<(), Fail> {
-    let start = Start {
-        comps: 2,
-        text: 0,
-        limits: Limits {
-            fibers: 1,
-            comps: 2,
-        },
-    };
+    let start = START;
     let mut world = World::start(rt.alloc(), &start)?;
     let won = Call::Complete {
         comp: 1,
@@ -40,14 +47,7 @@ fn a_computation_is_completed_once(rt: HostRuntime) -> Result<(), Fail> {
 
 #[test]
 fn fibers_are_made_up_to_the_limit(rt: HostRuntime) -> Result<(), Fail> {
-    let start = Start {
-        comps: 1,
-        text: 0,
-        limits: Limits {
-            fibers: 2,
-            comps: 1,
-        },
-    };
+    let start = START;
     let mut world = World::start(rt.alloc(), &start)?;
     let fork = Call::Fork { text: 1, value: 7 };
     assert_eq!(rt; world.apply(1, fork)?, Reply::Made(2));
@@ -63,14 +63,7 @@ fn fibers_are_made_up_to_the_limit(rt: HostRuntime) -> Result<(), Fail> {
 
 #[test]
 fn a_world_is_final_once_all_have_ended(rt: HostRuntime) -> Result<(), Fail> {
-    let start = Start {
-        comps: 1,
-        text: 0,
-        limits: Limits {
-            fibers: 2,
-            comps: 1,
-        },
-    };
+    let start = START;
     let mut world = World::start(rt.alloc(), &start)?;
     let end = Call::End(Outcome::Returned(0));
     assert_eq!(rt;
@@ -81,5 +74,70 @@ fn a_world_is_final_once_all_have_ended(rt: HostRuntime) -> Result<(), Fail> {
     assert_eq!(rt; world.is_final(), false);
     assert_eq!(rt; world.apply(2, end)?, Reply::Plain);
     assert_eq!(rt; world.is_final(), true);
+    Ok(())
+}
+
+#[test]
+fn triggers_and_places_are_made_up_to_the_limit(rt: HostRuntime) -> Result<(), Fail> {
+    let start = START;
+    let mut world = World::start(rt.alloc(), &start)?;
+    assert_eq!(rt; world.apply(1, Call::NewTrigger)?, Reply::Made(1));
+    assert_eq!(rt; world.apply(1, Call::NewTrigger)?, Reply::Full);
+    assert_eq!(rt; world.apply(1, Call::NewPlace)?, Reply::Made(0));
+    assert_eq!(rt; world.apply(1, Call::NewPlace)?, Reply::Full);
+    Ok(())
+}
+
+#[test]
+fn a_signal_resumes_who_waits(rt: HostRuntime) -> Result<(), Fail> {
+    let start = START;
+    let mut world = World::start(rt.alloc(), &start)?;
+    let resume = Action::Resume(1);
+    let arm = Call::Arm {
+        trigger: 0,
+        action: resume,
+    };
+    assert_eq!(rt;
+        world.apply(1, Call::Fork { text: 1, value: 7 })?,
+        Reply::Made(2)
+    );
+    assert_eq!(rt; world.apply(1, arm)?, Reply::Armed(ArmReply::Set));
+    assert_eq!(rt; world.is_live(1), false);
+    assert_eq!(rt;
+        world.apply(2, Call::Signal(0))?,
+        Reply::Signalled(SignalReply::Acted(resume))
+    );
+    assert_eq!(rt; world.is_live(1), true);
+    assert_eq!(rt; world.apply(1, arm)?, Reply::Armed(ArmReply::Signalled));
+    Ok(())
+}
+
+#[test]
+fn a_completion_owes_the_signals(rt: HostRuntime) -> Result<(), Fail> {
+    let start = START;
+    let mut world = World::start(rt.alloc(), &start)?;
+    let attach = Call::Attach {
+        place: 0,
+        comp: 1,
+        trigger: 0,
+    };
+    let complete = Call::Complete {
+        comp: 1,
+        outcome: Outcome::Returned(5),
+    };
+    assert_eq!(rt; world.apply(1, Call::NewPlace)?, Reply::Made(0));
+    assert_eq!(rt;
+        world.apply(1, attach)?,
+        Reply::Attached(AttachReply::Attached)
+    );
+    assert_eq!(rt;
+        world.apply(1, complete)?,
+        Reply::Completed(CompleteReply::Won)
+    );
+    assert_eq!(rt; world.is_final(), false);
+    assert_eq!(rt;
+        world.apply(1, Call::Signal(0))?,
+        Reply::Signalled(SignalReply::Plain)
+    );
     Ok(())
 }

@@ -1,45 +1,58 @@
-ghost use Rattle.std.specs.Prelude.{◌≡◌, ◌<◌, ◌↔◌, ℕ, length, replicate, slice_get, IsTrue, IfOk, OnOk, OnErr};
+ghost use Rattle.std.specs.Prelude.{◌≡◌, ◌<◌, ◌↔◌, ℕ, [], length, replicate, slice_get, IsTrue, IfOk, OnOk, OnErr};
 ghost use Rattle.pic_machine.specs.State.{CanStart, owed_of, world_at};
-ghost use Rattle.pic_machine.specs.Duty.{followed, fulfilled};
-ghost use Rattle.pic_machine.specs.Step.{Allowed, IsLive, after, completed, fork_reply, owing, peeked, reply_of, with_fiber, with_outcome};
-ghost use Rattle.pic_machine.specs.Final.{IsFinal};
+ghost use Rattle.pic_machine.specs.Step.{Allowed, IsLive, after, reply_of};
+ghost use Rattle.pic_machine.specs.Final.{IsAtRest, IsFinal};
 
-use crate::entry::{Call, CompleteReply, Reply};
-use crate::state::{CompState, FiberState};
-use pic_base::{CompNo, FiberNo, Limits, Memory, Outcome};
+use crate::attached::Attached;
+use crate::duties::Duties;
+use crate::entry::{Call, Reply};
+use crate::state::{CompState, FiberState, TrigState};
+use pic_base::{FiberNo, Limits, Memory};
 use std::alloc::Global;
 use std::marker::Model;
 
-/// What stands before the first entry: so many computations, all running, the root among them; and
-/// fiber 1, main, live with its text.
+mod comps;
+mod fibers;
+mod triggers;
+
+/// What stands before the first entry: so many triggers, all initial; so many computations, all running,
+/// the root among them; and fiber 1, main, live with its text.
 #[derive(Clone, Copy, Debug, PartialEq, Eq)]
 pub struct Start {
+    pub triggers: u32,
     pub comps: u32,
     pub text: u32,
     pub limits: Limits,
 }
 
-/// The world of the machine. Contracts see it as the `State` of `specs/State.antt`, in which no fiber
-/// owes anything: no call makes a duty yet.
+/// The world of the machine. Contracts see it as the `State` of `specs/State.antt`.
 #[derive(Drop)]
 pub struct World {
+    triggers: Vec<TrigState>,
     comps: Vec<CompState>,
     fibers: Vec<FiberState>,
+    owed: Vec<Duties>,
+    places: u32,
     limits: Limits,
 }
 
 impl Model for World {
-    ghost use Rattle.std.specs.Prelude.{◌+◌, length, replicate, []};
+    ghost use Rattle.std.specs.Prelude.{◌≡◌, ◌+◌, length};
     ghost use Rattle.pic_machine.specs.State.{State};
 
     ghost Value = { State };
 
     ghost view = { λ world. record {
+      triggers = world.triggers.items;
       comps = world.comps.items;
       fibers = world.fibers.items;
-      owed = replicate (length world.fibers.items + 1) [];
+      owed = world.owed.items;
+      places = world.places;
       limits = world.limits;
     } };
+
+    // The clock owes too.
+    ghost invariant = { λ world. length world.owed.items ≡ length world.fibers.items + 1 };
 }
 
 impl World {
@@ -48,17 +61,25 @@ impl World {
         requires { CanStart start.now }
         ensures { IfOk result (λ world. world ≡ world_at start.now) }
     {
+        let triggers = vec![in alloc; TrigState::Initial; start.triggers as usize]?;
         let comps = running(alloc, start.comps)?;
         let mut fibers = Vec::with_capacity(alloc, 1)?;
         fibers.push(FiberState::Live)?;
+        let mut owed = Vec::with_capacity(alloc, 2)?;
+        owed.push(Duties::none(alloc))?;
+        owed.push(Duties::none(alloc))?;
         Ok(World {
+            triggers,
             comps,
             fibers,
+            owed,
+            places: 0,
             limits: start.limits,
         })
     }
 
     /// Makes one call of a fiber, and answers its reply.
+    #[tactic(auto, using(crate::proofs::Callers::armer_is_live, crate::proofs::Callers::ender_is_live))]
     pub fn apply(&mut self, fiber: FiberNo, call: Call) -> Result<Reply, Memory>
         requires { Allowed self.old fiber call }
         ensures reply { IfOk result (λ reply. reply ≡ reply_of self.old fiber call) }
@@ -66,26 +87,23 @@ impl World {
         ensures err { OnErr result (self.new ≡ self.old) }
     {
         match call {
-            Call::Turn => Ok(Reply::Plain),
-            Call::Yield => Ok(Reply::Plain),
-            Call::Say(_) => Ok(Reply::Plain),
+            Call::Turn | Call::Yield | Call::Say(_) => Ok(Reply::Plain),
+            Call::NewTrigger => self.new_trigger(),
+            Call::NewPlace => Ok(self.new_place()),
+            Call::Look(trigger) => Ok(Reply::Seen(self.look(trigger))),
+            Call::Arm { trigger, action } => Ok(Reply::Armed(self.arm(fiber, trigger, action))),
+            Call::Signal(trigger) => Ok(Reply::Signalled(self.signal(fiber, trigger))),
+            Call::Attach { comp, trigger, .. } => Ok(Reply::Attached(self.attach(comp, trigger)?)),
             Call::Complete { comp, outcome } => {
-                Ok(Reply::Completed(self.complete(comp, outcome)))
+                Ok(Reply::Completed(self.complete(fiber, comp, outcome)?))
             }
-            Call::Peek(comp) => Ok(Reply::Peeked(self.peek(comp))),
+            Call::Peek(comp) => Ok(Reply::Peeked(self.peek(fiber, comp))),
             Call::Fork { .. } => self.fork(),
             Call::End(outcome) => {
-                self.fibers[fiber as usize - 1] = FiberState::Ended(outcome);
+                self.end(fiber, outcome);
                 Ok(Reply::Plain)
             }
         }
-    }
-
-    /// The computations, each at its number.
-    pub fn comps(&self) -> &[CompState]
-        ensures { result.now ≡ self.now.comps }
-    {
-        self.comps.as_slice()
     }
 
     /// The fibers in order of their numbers, from 1.
@@ -108,56 +126,31 @@ impl World {
     {
         self.fibers
             .iter()
-            .all(|fiber| !matches!(fiber, FiberState::Live))
+            .all(|fiber| is_at_rest(&self.triggers, *fiber))
+            && self.owed.iter().all(|owed| owed.is_empty())
     }
 }
 
-impl World {
-    fn complete(&mut self, comp: CompNo, outcome: Outcome) -> CompleteReply
-        requires { comp < length self.old.comps }
-        ensures reply { Reply.Completed result ≡ completed (slice_get self.old.comps comp) }
-        ensures after { self.new ≡ with_outcome self.old comp outcome (slice_get self.old.comps comp) }
-        ensures quiet { (f : ℕ) → owing self.old f (fulfilled (owed_of self.old f)) ≡ self.old }
-    {
-        let state = self.comps[comp as usize];
-        match state {
-            CompState::Running => {
-                self.comps[comp as usize] = CompState::Done(outcome);
-                CompleteReply::Won
-            }
-            CompState::Done(standing) => CompleteReply::Lost(standing),
-        }
-    }
-
-    fn peek(&self, comp: CompNo) -> Option<Outcome>
-        requires { comp < length self.now.comps }
-        ensures reply { Reply.Peeked result ≡ peeked (slice_get self.now.comps comp) }
-        ensures quiet { (f : ℕ) → owing self.now f (followed (owed_of self.now f) (slice_get self.now.comps comp)) ≡ self.now }
-    {
-        let state = self.comps[comp as usize];
-        match state {
-            CompState::Running => None,
-            CompState::Done(outcome) => Some(outcome),
-        }
-    }
-
-    fn fork(&mut self) -> Result<Reply, Memory>
-        ensures reply { IfOk result (λ reply. reply ≡ fork_reply self.old) }
-        ensures after { OnOk result (self.new ≡ with_fiber self.old) }
-        ensures err { OnErr result (self.new ≡ self.old) }
-    {
-        let count = self.fibers.len();
-        if count >= self.limits.fibers as usize {
-            return Ok(Reply::Full);
-        }
-        self.fibers.push(FiberState::Live)?;
-        Ok(Reply::Made(count as u32 + 1))
-    }
-}
-
-/// So many running computations.
-fn running(alloc: Global, count: u32) -> Result<Vec<CompState>, Memory>
-    ensures { IfOk result (λ comps. comps.items ≡ replicate count CompState.Running) }
+/// Whether a fiber that stands so makes no entry any more.
+fn is_at_rest(triggers: &[TrigState], fiber: FiberState) -> bool
+    ensures { IsTrue result ↔ IsAtRest triggers.now fiber }
 {
-    Ok(vec![in alloc; CompState::Running; count as usize]?)
+    match fiber {
+        FiberState::Live => false,
+        FiberState::Suspended(trigger) => {
+            !matches!(triggers.get(trigger as usize), Some(TrigState::Signalled))
+        }
+        FiberState::Ended(_) => true,
+    }
+}
+
+/// So many running computations, with nothing attached.
+fn running(alloc: Global, count: u32) -> Result<Vec<CompState>, Memory>
+    ensures { IfOk result (λ comps. comps.items ≡ replicate count (CompState.Running [])) }
+{
+    let mut comps = Vec::with_capacity(alloc, count as usize)?;
+    for _ in 0..count {
+        comps.push(CompState::Running(Attached::none(alloc)))?;
+    }
+    Ok(comps)
 }

@@ -1,52 +1,39 @@
 -- A fiber that has ended stays so: a live one has not ended.
-use Rattle.std.proofs.Common.{◌≡◌, ◌≢◌, ℕ, zero, suc, ◌-◌, ◌<◌, ◌==◌, inl, inr, Bool, true, false, Some, List, [], ◌∷◌, ◌++◌, length, filter, slice_get, slice_set, refl, sym, ap, subst, ◌∙◌, arith}
+use Rattle.std.proofs.Common.{◌≡◌, ◌≢◌, ℕ, ◌-◌, ◌<◌, ◌==◌, inl, inr, Bool, true, false, Some, List, [], ◌∷◌, ◌++◌, length, filter, slice_get, slice_set, refl, sym, ap, subst, ◌∙◌, arith}
 use Rattle.std.proofs.lemmas.Bool.Decides.{nat_tests}
+use Rattle.std.proofs.lemmas.Option.{slice_get_within}
 use Rattle.pic_base.specs.declared.outcome.Outcome.{Outcome}
 use Rattle.pic_machine.specs.declared.state.FiberState.{FiberState}
 use Rattle.pic_machine.specs.declared.state.FiberState.TheVariants.{Live, Ended}
 use Rattle.pic_machine.specs.declared.entry.Call.{Call}
-use Rattle.pic_machine.specs.declared.entry.Call.TheVariants.{Turn, Yield, Complete, Peek, Fork, Say, End}
+use Rattle.pic_machine.specs.declared.entry.Call.TheVariants.{Fork, End}
 use Rattle.pic_machine.specs.Happened.{Happened}
 use Rattle.pic_machine.specs.declared.entry.Reply.TheVariants.{Plain}
-use Rattle.pic_machine.specs.State.{State, owed_of}
-use Rattle.pic_machine.specs.Duty.{fulfilled}
-use Rattle.pic_machine.specs.Step.{IsLive, MayAct, after, has_room, owing, with_fiber}
+use Rattle.pic_machine.specs.State.{State}
+use Rattle.pic_machine.specs.Step.{IsLive, MayAct, after, fibers_after, has_room}
 use Rattle.pic_machine.specs.History.{Origin, Follows, IsLegal, event, world, world_from}
 use Rattle.pic_machine.specs.Log.{is_logged, log}
 use Rattle.pic_machine.proofs.Histories.{world_from-append}
-use Rattle.pic_machine.proofs.Steps.{not_clock, outcome_fibers, slice_get-append_left, slice_get-set_other, slice_get-set_same}
+use Rattle.pic_machine.proofs.Steps.{grown_get, not_clock, slice_get-set_other, slice_get-set_same}
 
 -- the fiber at a place has ended
 pub record HasEnded (fibers : List FiberState) (place : ℕ) : Type 0 where
   pub outcome : Outcome
   pub state : slice_get fibers place ≡ Some (Ended outcome)
 
-within : (fibers : List FiberState) (place : ℕ) (s : FiberState) → slice_get fibers place ≡ Some s → place < length fibers
-within [] place s is = absurd cc
-within (x ∷ xs) zero s is = omega arith
-within (x ∷ xs) (suc place) s is = let later = within xs place s is in omega (arith, later)
-
 -- another one ends, or the same one once more
 ended_set : (fibers : List FiberState) (place other : ℕ) (o : Outcome) (b : Bool) → (place == other) ≡ b → HasEnded fibers place → HasEnded (slice_set fibers other (Ended o)) place
 ended_set fibers place other o true same ended =
     let is : place ≡ other = grind (arith, nat_tests, same) in
-    record { outcome = o; state = ap (λ (k : ℕ). slice_get (slice_set fibers other (Ended o)) k) is ∙ slice_get-set_same fibers other (Ended o) (subst (λ (k : ℕ). k < length fibers) is (within fibers place (Ended ended.outcome) ended.state)) }
+    record { outcome = o; state = ap (λ (k : ℕ). slice_get (slice_set fibers other (Ended o)) k) is ∙ slice_get-set_same fibers other (Ended o) (subst (λ (k : ℕ). k < length fibers) is (slice_get_within fibers place (Ended ended.outcome) ended.state)) }
 ended_set fibers place other o false apart ended =
     let is : place ≢ other = grind (arith, nat_tests, apart) in
     record { outcome = ended.outcome; state = slice_get-set_other fibers other place (Ended o) is ∙ ended.state }
 
-ended_fork : (w : State) (place : ℕ) (b : Bool) → has_room w ≡ b → HasEnded w.fibers place → HasEnded (with_fiber w).fibers place
-ended_fork w place true room ended = rw room (record { outcome = ended.outcome; state = slice_get-append_left w.fibers (Live ∷ []) place (Ended ended.outcome) ended.state })
-ended_fork w place false room ended = rw room ended
-
-ended_after : (w : State) (g : ℕ) (call : Call) (place : ℕ) → HasEnded w.fibers place → HasEnded (after w g call).fibers place
-ended_after w g Turn place ended = ended
-ended_after w g Yield place ended = ended
-ended_after w g (Complete c o) place ended = rw (outcome_fibers (owing w g (fulfilled (owed_of w g))) c o (slice_get w.comps c)) ended
-ended_after w g (Peek c) place ended = ended
-ended_after w g (Fork text value) place ended = ended_fork w place (has_room w) refl ended
-ended_after w g (Say v) place ended = ended
+pub ended_after : (w : State) (g : ℕ) (call : Call) (place : ℕ) → HasEnded w.fibers place → HasEnded (fibers_after w g call) place
+ended_after w g (Fork text value) place ended = record { outcome = ended.outcome; state = grown_get (has_room w) w.fibers Live place (Ended ended.outcome) ended.state }
 ended_after w g (End o) place ended = ended_set w.fibers place (g - 1) o (place == (g - 1)) refl ended
+ended_after w g _ place ended = ended
 
 ended_from : (w : State) (hs : List Happened) (place : ℕ) → HasEnded w.fibers place → HasEnded (world_from w hs).fibers place
 ended_from w [] place ended = ended
@@ -79,9 +66,9 @@ module _ {A : Type 0} (p : A → Bool) (x : A) where
   passed_in (y ∷ ys) front is = passed_at y ys front (p y) refl (passed_in ys) is
 
 -- the end of fiber f took it away
-ended_there : (w : State) (f : ℕ) (o : Outcome) → f ≢ 0 → MayAct w f → HasEnded (after w f (End o)).fibers (f - 1)
+pub ended_there : (w : State) (f : ℕ) (o : Outcome) → f ≢ 0 → MayAct w f → HasEnded (after w f (End o)).fibers (f - 1)
 ended_there w f o fiber (inl clock) = absurd (fiber clock)
-ended_there w f o fiber (inr live) = record { outcome = o; state = slice_get-set_same w.fibers (f - 1) (Ended o) (within w.fibers (f - 1) Live live.live) }
+ended_there w f o fiber (inr live) = record { outcome = o; state = slice_get-set_same w.fibers (f - 1) (Ended o) (slice_get_within w.fibers (f - 1) Live live.live) }
 
 -- a live fiber's log doesn't end in its end
 pub no_end : (origin : Origin) (hs : List Happened) (f : ℕ) (before : List Happened) (o : Outcome) → IsLegal origin hs → IsLive (world origin hs) f → log hs f ≡ before ++ event f (End o) Plain ∷ [] → ⊥

@@ -5,17 +5,16 @@ use Rattle.pic_base.specs.declared.outcome.Outcome.{Outcome}
 use Rattle.pic_machine.specs.declared.state.FiberState.{FiberState}
 use Rattle.pic_machine.specs.declared.state.FiberState.TheVariants.{Live, Ended}
 use Rattle.pic_machine.specs.declared.entry.Call.{Call}
-use Rattle.pic_machine.specs.declared.entry.Call.TheVariants.{Turn, Yield, Complete, Peek, Fork, Say, End}
+use Rattle.pic_machine.specs.declared.entry.Call.TheVariants.{Fork, End}
 use Rattle.pic_machine.specs.Happened.{Happened}
-use Rattle.pic_machine.specs.State.{State, owed_of}
-use Rattle.pic_machine.specs.Duty.{fulfilled}
-use Rattle.pic_machine.specs.Step.{Allowed, MayAct, after, has_room, owing, reply_of, with_fiber}
+use Rattle.pic_machine.specs.State.{State}
+use Rattle.pic_machine.specs.Step.{Allowed, MayAct, after, fibers_after, grown, has_room, reply_of}
 use Rattle.pic_machine.specs.History.{Origin, IsLegal, world, world_from}
 use Rattle.pic_machine.specs.Log.{is_logged, is_turn, log}
 use Rattle.pic_machine.proofs.Histories.{world-push}
 use Rattle.pic_machine.proofs.Onward.{logged}
-use Rattle.pic_machine.proofs.Standing.{not_same}
-use Rattle.pic_machine.proofs.Steps.{not_clock, outcome_fibers, slice_get-set_other}
+use Rattle.pic_machine.proofs.Standing.{not_logged}
+use Rattle.pic_machine.proofs.Steps.{not_clock, slice_get-set_other}
 
 -- ---- entry by entry
 
@@ -48,7 +47,7 @@ pub data EndedBy (w : State) (g : ℕ) (call : Call) (place : ℕ) (o : Outcome)
   here : g ≡ place + 1 → call ≡ End o → EndedBy w g call place o
 
 -- who may act hasn't ended
-acts_not : (w : State) (g place : ℕ) (o : Outcome) → MayAct w g → slice_get w.fibers place ≡ Some (Ended o) → g ≢ place + 1
+pub acts_not : (w : State) (g place : ℕ) (o : Outcome) → MayAct w g → slice_get w.fibers place ≡ Some (Ended o) → g ≢ place + 1
 acts_not w g place o (inl clock) ended = λ same. absurd (omega (arith, clock, same))
 acts_not w g place o (inr live) ended = λ same.
     let one : g - 1 ≡ place = omega (arith, same) in
@@ -61,9 +60,9 @@ last_live [] (suc place) o is = absurd cc
 last_live (x ∷ xs) zero o is = is
 last_live (x ∷ xs) (suc place) o is = last_live xs place o is
 
-forked_none : (w : State) (place : ℕ) (o : Outcome) (b : Bool) → has_room w ≡ b → slice_get (with_fiber w).fibers place ≡ Some (Ended o) → slice_get w.fibers place ≡ Some (Ended o)
-forked_none w place o true room is = last_live w.fibers place o (rw room at is)
-forked_none w place o false room is = rw room at is
+grown_ended : (b : Bool) (fibers : List FiberState) (place : ℕ) (o : Outcome) → slice_get (grown b fibers Live) place ≡ Some (Ended o) → slice_get fibers place ≡ Some (Ended o)
+grown_ended true fibers place o is = last_live fibers place o is
+grown_ended false fibers place o is = is
 
 -- another fiber's end, or this one's
 set_within : (fibers : List FiberState) (place : ℕ) (x s : FiberState) → slice_get (slice_set fibers place x) place ≡ Some s → x ≡ s
@@ -82,18 +81,12 @@ end_by w g x place o false apart fiber acts is =
     let was : slice_get w.fibers place ≡ Some (Ended o) = sym (slice_get-set_other w.fibers (g - 1) place (Ended x) other) ∙ is in
     before was (acts_not w g place o acts was)
 
-ended_by : (w : State) (g : ℕ) (call : Call) (place : ℕ) (o : Outcome) → Allowed w g call → slice_get (after w g call).fibers place ≡ Some (Ended o) → EndedBy w g call place o
-ended_by w g Turn place o allowed is = before is (acts_not w g place o allowed.caller is)
-ended_by w g Yield place o allowed is = before is (acts_not w g place o allowed.caller is)
-ended_by w g (Complete c x) place o allowed is =
-    let was : slice_get w.fibers place ≡ Some (Ended o) = sym (ap (λ (fs : List FiberState). slice_get fs place) (outcome_fibers (owing w g (fulfilled (owed_of w g))) c x (slice_get w.comps c))) ∙ is in
-    before was (acts_not w g place o allowed.caller was)
-ended_by w g (Peek c) place o allowed is = before is (acts_not w g place o allowed.caller is)
+ended_by : (w : State) (g : ℕ) (call : Call) (place : ℕ) (o : Outcome) → Allowed w g call → slice_get (fibers_after w g call) place ≡ Some (Ended o) → EndedBy w g call place o
 ended_by w g (Fork text value) place o allowed is =
-    let was = forked_none w place o (has_room w) refl is in
+    let was = grown_ended (has_room w) w.fibers place o is in
     before was (acts_not w g place o allowed.caller was)
-ended_by w g (Say v) place o allowed is = before is (acts_not w g place o allowed.caller is)
 ended_by w g (End x) place o allowed is = end_by w g x place o (place == (g - 1)) refl (not_clock w g (End x) allowed tt) allowed.caller is
+ended_by w g _ place o allowed is = before is (acts_not w g place o allowed.caller is)
 
 -- ---- the log
 
@@ -112,16 +105,13 @@ data EndsFrom (w : State) (hs : List Happened) (place : ℕ) (o : Outcome) : Typ
 one_before : (h : Happened) (hs : List Happened) (o : Outcome) → EndsSo hs o → EndsSo (h ∷ hs) o
 one_before h hs o ends = record { front = h ∷ ends.front; last = ends.last; is = ap (λ (zs : List Happened). h ∷ zs) ends.is; call = ends.call }
 
-unlogged : (h : Happened) (f : ℕ) → h.entry.fiber ≢ f → is_logged f h ≡ false
-unlogged h f other = rw (not_same h.entry.fiber f (h.entry.fiber == f) refl other) refl
-
 module _ (w : State) (h : Happened) (hs : List Happened) (place : ℕ) (o : Outcome) where
   behind : (b : Bool) → is_logged (place + 1) h ≡ b → EndsSo (log hs (place + 1)) o → EndsFrom w (h ∷ hs) place o
   behind true mine ends = since (rw mine (one_before h (log hs (place + 1)) o ends))
   behind false other ends = since (rw other ends)
 
   now : EndedBy w h.entry.fiber h.entry.call place o → log hs (place + 1) ≡ [] → EndsFrom w (h ∷ hs) place o
-  now (before was other) none = long_ago was (rw (unlogged h (place + 1) other) none)
+  now (before was other) none = long_ago was (rw (not_logged h (place + 1) other) none)
   now (here mine call) none =
       let within : is_turn h.entry.call ≡ false = ap is_turn call in
       since (rw (logged h (place + 1) mine within) (record { front = []; last = h; is = ap (λ (zs : List Happened). h ∷ zs) none; call = call }))

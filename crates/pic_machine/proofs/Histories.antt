@@ -9,7 +9,7 @@ use Rattle.pic_machine.specs.Happened.{Happened}
 use Rattle.pic_machine.specs.State.{State}
 use Rattle.pic_machine.specs.Step.{MakesNoFiber, after}
 use Rattle.pic_machine.specs.History.{BirthFits, Origin, world_from, world, Follows, IsLegal}
-use Rattle.pic_machine.specs.Log.{is_logged, is_turn, is_visible, log, visible}
+use Rattle.pic_machine.specs.Log.{is_hidden, is_logged, is_visible, log, visible}
 
 -- the world after one more entry is the step from the world before it
 pub world_from-push : (w : State) (hs : List Happened) (h : Happened) → world_from w (hs ++ h ∷ []) ≡ after (world_from w hs) h.entry.fiber h.entry.call
@@ -53,13 +53,8 @@ IsLegal-push origin hs h legal follows = record { each = at_push (Follows origin
 
 -- beside a call that makes no fiber stands no birth
 pub BirthFits-none : (w : State) (c : Call) (reply : Reply) → MakesNoFiber c → BirthFits w c reply None
-BirthFits-none w call.Turn reply none = refl
-BirthFits-none w call.Yield reply none = refl
-BirthFits-none w (call.Complete k o) reply none = refl
-BirthFits-none w (call.Peek k) reply none = refl
 BirthFits-none w (call.Fork text value) reply none = absurd none
-BirthFits-none w (call.Say v) reply none = refl
-BirthFits-none w (call.End o) reply none = refl
+BirthFits-none w _ reply none = refl
 
 -- the front of a legal history is legal
 pub IsLegal-front : (origin : Origin) (hs more : List Happened) → IsLegal origin (hs ++ more) → IsLegal origin hs
@@ -76,8 +71,8 @@ log-append hs more f = filter-append (is_logged f) hs more
 pub visible-append : (hs more : List Happened) → visible (hs ++ more) ≡ visible hs ++ visible more
 visible-append hs more = ap (map (λ (h : Happened). h.entry)) (filter-append is_visible hs more) ∙ map-append (λ (h : Happened). h.entry) (filter is_visible hs) (filter is_visible more)
 
-pub visible-push : (hs : List Happened) (h : Happened) → is_turn h.entry.call ≡ false → visible (hs ++ h ∷ []) ≡ visible hs ++ h.entry ∷ []
-visible-push hs h within = visible-append hs (h ∷ []) ∙ rw within refl
+pub visible-push : (hs : List Happened) (h : Happened) → is_hidden h.entry.call h.entry.reply ≡ false → visible (hs ++ h ∷ []) ≡ visible hs ++ h.entry ∷ []
+visible-push hs h shown = visible-append hs (h ∷ []) ∙ rw shown refl
 
 pub log-push : (hs : List Happened) (h : Happened) (f : ℕ) → log (hs ++ h ∷ []) f ≡ log hs f ++ log (h ∷ []) f
 log-push hs h f = filter-append (is_logged f) hs (h ∷ [])

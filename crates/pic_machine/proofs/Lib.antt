@@ -10,6 +10,7 @@ pub mod Comps
 pub mod Ends
 pub mod Fates
 pub mod Completions
+pub mod Finals
 pub mod Readiness
 pub mod Turnings
 pub mod Polls

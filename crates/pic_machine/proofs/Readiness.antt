@@ -8,17 +8,16 @@ use Rattle.pic_base.specs.declared.outcome.Outcome.{Outcome}
 use Rattle.pic_machine.specs.declared.state.FiberState.{FiberState}
 use Rattle.pic_machine.specs.declared.state.FiberState.TheVariants.{Live, Ended}
 use Rattle.pic_machine.specs.declared.entry.Call.{Call}
-use Rattle.pic_machine.specs.declared.entry.Call.TheVariants.{Turn, Yield, Complete, Peek, Fork, Say, End}
+use Rattle.pic_machine.specs.declared.entry.Call.TheVariants.{Turn, Fork, End}
 use Rattle.pic_machine.specs.declared.entry.Reply.{Reply}
 use Rattle.pic_machine.specs.declared.entry.Reply.TheVariants.{Plain}
 use Rattle.pic_machine.specs.Happened.{Happened}
-use Rattle.pic_machine.specs.State.{State, owed_of}
-use Rattle.pic_machine.specs.Duty.{fulfilled}
-use Rattle.pic_machine.specs.Step.{Allowed, IsLive, MayAct, after, fork_reply, has_room, owing, reply_of, with_fiber}
+use Rattle.pic_machine.specs.State.{State}
+use Rattle.pic_machine.specs.Step.{Allowed, IsLive, MayAct, after, fibers_after, fork_reply, grown, has_room, reply_of}
 use Rattle.pic_machine.specs.History.{Origin, Follows, IsLegal, event, world}
-use Rattle.pic_machine.specs.Order.{GoesOn, InFifo, IsOwn, IsTurn, Stops, begin, readied, readied_by, stops, turn}
+use Rattle.pic_machine.specs.Order.{GoesOn, InOrder, IsOwn, IsTurn, Stops, begin, readied, readied_by, stops, turn}
 use Rattle.pic_machine.proofs.Histories.{IsLegal-front, world-push}
-use Rattle.pic_machine.proofs.Steps.{not_clock, outcome_fibers}
+use Rattle.pic_machine.proofs.Steps.{not_clock}
 
 -- ---- counts
 
@@ -96,21 +95,18 @@ live_of : (w : State) (f : ℕ) → MayAct w f → f ≢ 0 → IsLive w f
 live_of w f (inl clock) fiber = absurd (fiber clock)
 live_of w f (inr live) fiber = live
 
-forked_alive : (w : State) (f text value g : ℕ) (room : Bool) → has_room w ≡ room → occurs g (readied_by f (Fork text value) (fork_reply w)) + alive w.fibers g ≡ alive (with_fiber w).fibers g + 0
-forked_alive w f text value g true is = rw is (omega (arith, alive_pushed w.fibers g))
-forked_alive w f text value g false is = rw is (omega arith)
+grown_alive : (w : State) (f text value g : ℕ) (room : Bool) → has_room w ≡ room → occurs g (readied_by f (Fork text value) (fork_reply w)) + alive w.fibers g ≡ alive (grown room w.fibers Live) g
+grown_alive w f text value g true is = rw is (omega (arith, alive_pushed w.fibers g))
+grown_alive w f text value g false is = rw is (omega arith)
 
 -- what an entry makes ready it adds to the live fibers, or it had ended its turn; and an end takes its own
 alive_after : (w : State) (f : ℕ) (call : Call) (reply : Reply) (g : ℕ) → Allowed w f call → reply ≡ reply_of w f call
-    → occurs g (readied_by f call reply) + alive w.fibers g ≡ alive (after w f call).fibers g + leaves g f call reply
-alive_after w f Turn reply g allowed is = omega arith
-alive_after w f Yield reply g allowed is = omega arith
-alive_after w f (Complete c o) reply g allowed is = rw (outcome_fibers (owing w f (fulfilled (owed_of w f))) c o (slice_get w.comps c)) (omega arith)
-alive_after w f (Peek c) reply g allowed is = omega arith
+    → occurs g (readied_by f call reply) + alive w.fibers g ≡ alive (fibers_after w f call) g + leaves g f call reply
 alive_after w f (Fork text value) reply g allowed is =
-    subst (λ (r : Reply). occurs g (readied_by f (Fork text value) r) + alive w.fibers g ≡ alive (with_fiber w).fibers g + 0) (sym is) (forked_alive w f text value g (has_room w) refl)
-alive_after w f (Say v) reply g allowed is = omega arith
+    let made : occurs g (readied_by f (Fork text value) reply) ≡ occurs g (readied_by f (Fork text value) (fork_reply w)) = ap (λ (r : Reply). occurs g (readied_by f (Fork text value) r)) is in
+    omega (arith, made, grown_alive w f text value g (has_room w) refl)
 alive_after w f (End o) reply g allowed is = omega (arith, ended_alive w f g o (live_of w f allowed.caller (not_clock w f (End o) allowed tt)))
+alive_after w f _ reply g allowed is = omega arith
 
 -- ---- what a turn changes
 
@@ -150,15 +146,18 @@ turn_leaves g f own is =
 turn_begins : (origin : Origin) (hs : List Happened) (f : ℕ) → world origin (hs ++ event f Turn Plain ∷ []) ≡ world origin hs
 turn_begins origin hs f = world-push origin hs (event f Turn Plain)
 
-ready_after : (origin : Origin) (hs own : List Happened) (f : ℕ) (ready : List ℕ) → IsLegal origin (hs ++ event f Turn Plain ∷ own) → IsTurn f own
-    → IsReady (world origin hs) (f ∷ ready) → IsReady (world origin (hs ++ event f Turn Plain ∷ own)) (ready ++ readied own)
-ready_after origin hs own f ready legal is before g =
+occurs_taken : (g f : ℕ) (before behind : List ℕ) → occurs g (before ++ f ∷ behind) ≡ same f g + occurs g (before ++ behind)
+occurs_taken g f before behind = omega (arith, occurs-append g before (f ∷ behind), occurs-append g before behind)
+
+ready_after : (origin : Origin) (hs own : List Happened) (f : ℕ) (before behind : List ℕ) → IsLegal origin (hs ++ event f Turn Plain ∷ own) → IsTurn f own
+    → IsReady (world origin hs) (before ++ f ∷ behind) → IsReady (world origin (hs ++ event f Turn Plain ∷ own)) ((before ++ behind) ++ readied own)
+ready_after origin hs own f before behind legal is ready g =
     let front : List Happened = hs ++ event f Turn Plain ∷ [] in
     let assoc : front ++ own ≡ hs ++ event f Turn Plain ∷ own = append_assoc hs (event f Turn Plain ∷ []) own in
     let through = alive_through origin front own g (subst (IsLegal origin) (sym assoc) legal) in
     let there : alive (world origin (front ++ own)).fibers g ≡ alive (world origin (hs ++ event f Turn Plain ∷ own)).fibers g = ap (λ (zs : List Happened). alive (world origin zs).fibers g) assoc in
     let here : alive (world origin front).fibers g ≡ alive (world origin hs).fibers g = ap (λ (w : State). alive w.fibers g) (turn_begins origin hs f) in
-    omega (arith, through, there, here, before g, turn_leaves g f own is, occurs-append g ready (readied own))
+    omega (arith, through, there, here, ready g, occurs_taken g f before behind, turn_leaves g f own is, occurs-append g (before ++ behind) (readied own))
 
 -- ---- the ready list
 
@@ -170,10 +169,10 @@ main_ready fs g is = ones g ∙ ap (λ (zs : List FiberState). alive zs g) (sym 
   ones (suc (suc place)) = refl
 
 -- where main alone is live at the start
-pub ready_is_live : (origin : Origin) (hs : List Happened) (ready : List ℕ) → origin.world.fibers ≡ Live ∷ [] → IsLegal origin hs → InFifo hs ready → IsReady (world origin hs) ready
-ready_is_live origin hs ready main legal begin = λ g. main_ready origin.world.fibers g main
-ready_is_live origin hs ready main legal (turn {hs = before} {f = f} {ready = rest} own fifo is) =
-    ready_after origin before own f rest legal is (ready_is_live origin before (f ∷ rest) main (IsLegal-front origin before (event f Turn Plain ∷ own) legal) fifo)
+pub ready_is_live : (Picks : List ℕ → Type 0) (origin : Origin) (hs : List Happened) (ready : List ℕ) → origin.world.fibers ≡ Live ∷ [] → IsLegal origin hs → InOrder Picks hs ready → IsReady (world origin hs) ready
+ready_is_live Picks origin hs ready main legal begin = λ g. main_ready origin.world.fibers g main
+ready_is_live Picks origin hs ready main legal (turn {hs = done} {f = f} before behind own order picks is) =
+    ready_after origin done own f before behind legal is (ready_is_live Picks origin done (before ++ f ∷ behind) main (IsLegal-front origin done (event f Turn Plain ∷ own) legal) order)
 
 -- ---- what it tells
 

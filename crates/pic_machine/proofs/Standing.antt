@@ -9,7 +9,7 @@ use Rattle.pic_machine.specs.Step.{Allowed, MayAct}
 use Rattle.pic_machine.specs.History.{Origin, Follows, IsLegal, MayMake, birth_among, birth_at, birth_in, or_later, world}
 use Rattle.pic_machine.specs.Log.{Others, is_logged, log}
 use Rattle.pic_machine.proofs.Histories.{log-append, world-push}
-use Rattle.pic_machine.proofs.Steps.{acts_after, allowed_after, owed_after}
+use Rattle.pic_machine.proofs.Steps.{acts_after, allowed_after, owed_other}
 
 -- what each entry of another fiber leaves standing, all of them do
 others_leave : (P : List Happened → Type 0) (origin : Origin) (f : ℕ)
@@ -39,7 +39,7 @@ acts_stays origin hs others f legal apart acts =
 pub owed_stays : (origin : Origin) (hs others : List Happened) (f : ℕ) → IsLegal origin (hs ++ others) → Others f others → owed_of (world origin (hs ++ others)) f ≡ owed_of (world origin hs) f
 owed_stays origin hs others f legal apart =
     others_leave (λ zs. owed_of (world origin zs) f ≡ owed_of (world origin hs) f) origin f
-    (λ zs h follows other same. ap (λ (w : State). owed_of w f) (world-push origin zs h) ∙ (owed_after (world origin zs) h.entry.fiber h.entry.call f other ∙ same))
+    (λ zs h follows other same. ap (λ (w : State). owed_of w f) (world-push origin zs h) ∙ (owed_other (world origin zs) h.entry.fiber h.entry.call f other ∙ same))
     hs others legal apart refl
 
 -- ---- logs
@@ -52,7 +52,7 @@ not_same g f false is other = is
 pub same_number : (f : ℕ) → (f == f) ≡ true
 same_number f = grind (arith, nat_tests)
 
-not_logged : (h : Happened) (f : ℕ) → h.entry.fiber ≢ f → is_logged f h ≡ false
+pub not_logged : (h : Happened) (f : ℕ) → h.entry.fiber ≢ f → is_logged f h ≡ false
 not_logged h f other = rw (not_same h.entry.fiber f (h.entry.fiber == f) refl other) refl
 
 pub log-others : (hs : List Happened) (f : ℕ) → Others f hs → log hs f ≡ []

@@ -1,5 +1,5 @@
 -- What one step leaves as it was: how many computations there are, and what other fibers are and owe.
-use Rattle.std.proofs.Common.{◌≡◌, ◌≢◌, ℕ, zero, suc, ◌-◌, ◌<◌, ◌≤◌, inl, inr, Bool, true, false, List, [], ◌∷◌, ◌++◌, length, slice_index_or, slice_get, slice_set, Option, Some, None, refl, sym, ap, subst, ◌∙◌, arith}
+use Rattle.std.proofs.Common.{◌≡◌, ◌≢◌, ℕ, zero, suc, ◌-◌, ◌<◌, ◌≤◌, inl, inr, Bool, true, false, List, [], ◌∷◌, ◌++◌, length, slice_index_or, slice_get, slice_set, Option, Some, refl, sym, ap, subst, ◌∙◌, arith}
 use Rattle.std.proofs.lemmas.List.{get_or-set_other, length-set, length-append}
 use Rattle.std.proofs.lemmas.Bool.Decides.{nat_tests}
 use Rattle.pic_base.specs.declared.duty.Duty.{Duty}
@@ -7,13 +7,12 @@ use Rattle.pic_base.specs.declared.duty.Duty.TheVariants.{Signal, Follow, Cancel
 use Rattle.pic_base.specs.declared.outcome.Outcome.{Outcome}
 use Rattle.pic_machine.specs.declared.state.CompState.{CompState}
 use Rattle.pic_machine.specs.declared.state.CompState.TheVariants.{Running, Done}
-use Rattle.pic_machine.specs.declared.state.FiberState.{FiberState}
 use Rattle.pic_machine.specs.declared.state.FiberState.TheVariants.{Live, Ended}
 use Rattle.pic_machine.specs.declared.entry.Call.{Call}
-use Rattle.pic_machine.specs.declared.entry.Call.TheVariants.{Turn, Yield, Complete, Peek, Fork, Say, End}
+use Rattle.pic_machine.specs.declared.entry.Call.TheVariants.{Complete, Peek, Fork, End}
 use Rattle.pic_machine.specs.State.{State, owed_of}
 use Rattle.pic_machine.specs.Duty.{ClockMakes, DutiesAllow, fulfilled, followed}
-use Rattle.pic_machine.specs.Step.{Allowed, IsLive, MakesNoFiber, MayAct, NamesStand, after, has_room, owing, with_fiber, with_outcome}
+use Rattle.pic_machine.specs.Step.{Allowed, IsLive, MakesNoFiber, MayAct, NamesStand, after, comps_after, fibers_after, grown, has_room, with_outcome}
 
 -- ---- lists
 
@@ -64,72 +63,41 @@ not_clock w f call allowed makes zero_is = clock_never (owed_of w f) call makes 
 
 -- ---- computations
 
-outcome_comps : (w : State) (c : ℕ) (o : Outcome) (s : Option CompState) → length (with_outcome w c o s).comps ≡ length w.comps
-outcome_comps w c o None = refl
-outcome_comps w c o (Some Running) = length-set w.comps c (Done o)
-outcome_comps w c o (Some (Done x)) = refl
-
-forked_comps : (w : State) (b : Bool) → has_room w ≡ b → length (with_fiber w).comps ≡ length w.comps
-forked_comps w true room = rw room refl
-forked_comps w false room = rw room refl
+length-outcome : (comps : List CompState) (c : ℕ) (o : Outcome) (s : Option CompState) → length (with_outcome comps c o s) ≡ length comps
+length-outcome comps c o (Some Running) = length-set comps c (Done o)
+length-outcome comps c o _ = refl
 
 -- no step makes a computation yet, and none takes one away
-pub length-comps : (w : State) (f : ℕ) (call : Call) → length (after w f call).comps ≡ length w.comps
-length-comps w f Turn = refl
-length-comps w f Yield = refl
-length-comps w f (Complete c o) = outcome_comps (owing w f (fulfilled (owed_of w f))) c o (slice_get w.comps c)
-length-comps w f (Peek c) = refl
-length-comps w f (Fork text value) = forked_comps w (has_room w) refl
-length-comps w f (Say v) = refl
-length-comps w f (End o) = refl
+pub length-comps : (w : State) (call : Call) → length (comps_after w call) ≡ length w.comps
+length-comps w (Complete c o) = length-outcome w.comps c o (slice_get w.comps c)
+length-comps w _ = refl
 
 pub names_after : (w : State) (g : ℕ) (other call : Call) → NamesStand w call → NamesStand (after w g other) call
-names_after w g other Turn stand = tt
-names_after w g other Yield stand = tt
-names_after w g other (Complete c o) stand = subst (λ (n : ℕ). c < n) (sym (length-comps w g other)) stand
-names_after w g other (Peek c) stand = subst (λ (n : ℕ). c < n) (sym (length-comps w g other)) stand
-names_after w g other (Fork text value) stand = tt
-names_after w g other (Say v) stand = tt
-names_after w g other (End o) stand = tt
+names_after w g other (Complete c o) stand = subst (λ (n : ℕ). c < n) (sym (length-comps w other)) stand
+names_after w g other (Peek c) stand = subst (λ (n : ℕ). c < n) (sym (length-comps w other)) stand
+names_after w g other _ stand = tt
 
 -- ---- fibers
 
-pub outcome_fibers : (w : State) (c : ℕ) (o : Outcome) (s : Option CompState) → (with_outcome w c o s).fibers ≡ w.fibers
-outcome_fibers w c o None = refl
-outcome_fibers w c o (Some Running) = refl
-outcome_fibers w c o (Some (Done x)) = refl
+grown_stays : {A : Type 0} (b : Bool) (xs : List A) (x : A) → length xs ≤ length (grown b xs x)
+grown_stays true xs x = omega (arith, length-append xs (x ∷ []))
+grown_stays false xs x = omega arith
 
-forked_fibers : (w : State) (b : Bool) → has_room w ≡ b → length w.fibers ≤ length (with_fiber w).fibers
-forked_fibers w true room = rw room (omega (arith, length-append w.fibers (Live ∷ [])))
-forked_fibers w false room = rw room (omega arith)
+pub grown_get : {A : Type 0} (b : Bool) (xs : List A) (x : A) (i : ℕ) (y : A) → slice_get xs i ≡ Some y → slice_get (grown b xs x) i ≡ Some y
+grown_get true xs x i y is = slice_get-append_left xs (x ∷ []) i y is
+grown_get false xs x i y is = is
 
 -- no step takes a fiber away
-pub fibers_stay : (w : State) (f : ℕ) (call : Call) → length w.fibers ≤ length (after w f call).fibers
-fibers_stay w f Turn = omega arith
-fibers_stay w f Yield = omega arith
-fibers_stay w f (Complete c o) = rw (outcome_fibers (owing w f (fulfilled (owed_of w f))) c o (slice_get w.comps c)) (omega arith)
-fibers_stay w f (Peek c) = omega arith
-fibers_stay w f (Fork text value) = forked_fibers w (has_room w) refl
-fibers_stay w f (Say v) = omega arith
-fibers_stay w f (End o) = rw (length-set w.fibers (f - 1) (Ended o)) (omega arith)
+pub fibers_stay : (w : State) (f : ℕ) (call : Call) → length w.fibers ≤ length (fibers_after w f call)
+fibers_stay w f (Fork text value) = grown_stays (has_room w) w.fibers Live
+fibers_stay w f (End o) = omega (arith, length-set w.fibers (f - 1) (Ended o))
+fibers_stay w f _ = omega arith
 
 -- only a fork makes a fiber
-pub length-fibers : (w : State) (f : ℕ) (call : Call) → MakesNoFiber call → length (after w f call).fibers ≡ length w.fibers
-length-fibers w f Turn none = refl
-length-fibers w f Yield none = refl
-length-fibers w f (Complete c o) none = ap (λ (fs : List FiberState). length fs) (outcome_fibers (owing w f (fulfilled (owed_of w f))) c o (slice_get w.comps c))
-length-fibers w f (Peek c) none = refl
+pub length-fibers : (w : State) (f : ℕ) (call : Call) → MakesNoFiber call → length (fibers_after w f call) ≡ length w.fibers
 length-fibers w f (Fork text value) none = absurd none
-length-fibers w f (Say v) none = refl
 length-fibers w f (End o) none = length-set w.fibers (f - 1) (Ended o)
-
--- fibers in the same states, and maybe one more
-same_live : (old new : State) (f : ℕ) → new.fibers ≡ old.fibers → IsLive old f → IsLive new f
-same_live old new f same live = record { made = live.made; live = ap (λ (fs : List FiberState). slice_get fs (f - 1)) same ∙ live.live }
-
-forked_live : (w : State) (f : ℕ) (b : Bool) → has_room w ≡ b → IsLive w f → IsLive (with_fiber w) f
-forked_live w f true room live = rw room (record { made = live.made; live = slice_get-append_left w.fibers (Live ∷ []) (f - 1) Live live.live })
-forked_live w f false room live = rw room live
+length-fibers w f _ none = refl
 
 -- the calls that end no fiber
 abbrev pub EndsNone : Call → Type 0
@@ -138,13 +106,9 @@ EndsNone _ = Unit {0}
 
 -- a live fiber stays live while none ends
 pub live_unless : (w : State) (g : ℕ) (call : Call) (f : ℕ) → EndsNone call → IsLive w f → IsLive (after w g call) f
-live_unless w g Turn f none live = live
-live_unless w g Yield f none live = live
-live_unless w g (Complete c o) f none live = same_live w (after w g (Complete c o)) f (outcome_fibers (owing w g (fulfilled (owed_of w g))) c o (slice_get w.comps c)) live
-live_unless w g (Peek c) f none live = same_live w (after w g (Peek c)) f refl live
-live_unless w g (Fork text value) f none live = forked_live w f (has_room w) refl live
-live_unless w g (Say v) f none live = live
+live_unless w g (Fork text value) f none live = record { made = live.made; live = grown_get (has_room w) w.fibers Live (f - 1) Live live.live }
 live_unless w g (End o) f none live = absurd none
+live_unless w g _ f none live = record { made = live.made; live = live.live }
 
 -- and while others act, who may end
 pub live_after : (w : State) (g : ℕ) (call : Call) (f : ℕ) → Allowed w g call → g ≢ f → IsLive w f → IsLive (after w g call) f
@@ -165,31 +129,34 @@ acts_after w g call f allowed other (inr live) = inr (live_after w g call f allo
 
 -- ---- duties
 
-outcome_owed : (w : State) (c : ℕ) (o : Outcome) (s : Option CompState) → (with_outcome w c o s).owed ≡ w.owed
-outcome_owed w c o None = refl
-outcome_owed w c o (Some Running) = refl
-outcome_owed w c o (Some (Done x)) = refl
-
-forked_owed : (w : State) (f : ℕ) (b : Bool) → has_room w ≡ b → owed_of (with_fiber w) f ≡ owed_of w f
-forked_owed w f true room = rw room (nothing_more w.owed f)
-forked_owed w f false room = rw room refl
+grown_owed : (b : Bool) (ds : List (List Duty)) (f : ℕ) → slice_index_or (grown b ds []) f [] ≡ slice_index_or ds f []
+grown_owed true ds f = nothing_more ds f
+grown_owed false ds f = refl
 
 -- a call changes what its own fiber owes, and no other's duties
-pub owed_after : (w : State) (g : ℕ) (call : Call) (f : ℕ) → g ≢ f → owed_of (after w g call) f ≡ owed_of w f
-owed_after w g Turn f other = refl
-owed_after w g Yield f other = refl
-owed_after w g (Complete c o) f other =
-    ap (λ (ds : List (List Duty)). slice_index_or ds f []) (outcome_owed (owing w g (fulfilled (owed_of w g))) c o (slice_get w.comps c))
-    ∙ get_or-set_other w.owed g f (fulfilled (owed_of w g)) [] (λ same. other (sym same))
-owed_after w g (Peek c) f other = get_or-set_other w.owed g f (followed (owed_of w g) (slice_get w.comps c)) [] (λ same. other (sym same))
-owed_after w g (Fork text value) f other = forked_owed w f (has_room w) refl
-owed_after w g (Say v) f other = refl
-owed_after w g (End o) f other = refl
+pub owed_other : (w : State) (g : ℕ) (call : Call) (f : ℕ) → g ≢ f → owed_of (after w g call) f ≡ owed_of w f
+owed_other w g (Complete c o) f other = get_or-set_other w.owed g f (fulfilled (owed_of w g)) [] (λ same. other (sym same))
+owed_other w g (Peek c) f other = get_or-set_other w.owed g f (followed (owed_of w g) (slice_get w.comps c)) [] (λ same. other (sym same))
+owed_other w g (Fork text value) f other = grown_owed (has_room w) w.owed f
+owed_other w g _ f other = refl
+
+-- the calls that neither fulfil a duty nor make one
+abbrev pub LeavesDuties : Call → Type 0
+LeavesDuties (Complete c o) = ⊥
+LeavesDuties (Peek c) = ⊥
+LeavesDuties _ = Unit {0}
+
+-- such a call changes nobody's duties
+pub owed_left : (w : State) (g : ℕ) (call : Call) (f : ℕ) → LeavesDuties call → owed_of (after w g call) f ≡ owed_of w f
+owed_left w g (Complete c o) f leaves = absurd leaves
+owed_left w g (Peek c) f leaves = absurd leaves
+owed_left w g (Fork text value) f leaves = grown_owed (has_room w) w.owed f
+owed_left w g _ f leaves = refl
 
 -- what a fiber may make it may make while others act
 pub allowed_after : (w : State) (g : ℕ) (other : Call) (f : ℕ) (call : Call) → Allowed w g other → g ≢ f → Allowed w f call → Allowed (after w g other) f call
 allowed_after w g other f call theirs apart mine =
-    let same : owed_of w f ≡ owed_of (after w g other) f = sym (owed_after w g other f apart) in
+    let same : owed_of w f ≡ owed_of (after w g other) f = sym (owed_other w g other f apart) in
     record {
       caller = acts_after w g other f theirs apart mine.caller;
       clock = λ zero_is. subst (λ (ds : List Duty). ClockMakes ds call) same (mine.clock zero_is);
@@ -199,43 +166,20 @@ allowed_after w g other f call theirs apart mine =
 
 -- ---- limits
 
-outcome_limits : (w : State) (c : ℕ) (o : Outcome) (s : Option CompState) → (with_outcome w c o s).limits ≡ w.limits
-outcome_limits w c o None = refl
-outcome_limits w c o (Some Running) = refl
-outcome_limits w c o (Some (Done x)) = refl
-
-forked_limits : (w : State) (b : Bool) → has_room w ≡ b → (with_fiber w).limits ≡ w.limits
-forked_limits w true room = rw room refl
-forked_limits w false room = rw room refl
-
-pub limits_after : (w : State) (f : ℕ) (call : Call) → (after w f call).limits ≡ w.limits
-limits_after w f Turn = refl
-limits_after w f Yield = refl
-limits_after w f (Complete c o) = outcome_limits (owing w f (fulfilled (owed_of w f))) c o (slice_get w.comps c)
-limits_after w f (Peek c) = refl
-limits_after w f (Fork text value) = forked_limits w (has_room w) refl
-limits_after w f (Say v) = refl
-limits_after w f (End o) = refl
-
 -- there are at most as many fibers as there may be
 abbrev pub IsWithin : State → Type 0
 IsWithin w = length w.fibers ≤ w.limits.fibers
 
-forked_within : (w : State) (b : Bool) → has_room w ≡ b → IsWithin w → IsWithin (with_fiber w)
+forked_within : (w : State) (b : Bool) → has_room w ≡ b → IsWithin w → length (grown b w.fibers Live) ≤ w.limits.fibers
 forked_within w true room within =
     let less : length w.fibers < w.limits.fibers = grind (arith, nat_tests, room) in
-    rw room (omega (arith, less, length-append w.fibers (Live ∷ [])))
-forked_within w false room within = rw room within
+    omega (arith, less, length-append w.fibers (Live ∷ []))
+forked_within w false room within = within
 
 pub within_after : (w : State) (f : ℕ) (call : Call) → IsWithin w → IsWithin (after w f call)
-within_after w f Turn within = within
-within_after w f Yield within = within
-within_after w f (Complete c o) within =
-    rw (outcome_fibers (owing w f (fulfilled (owed_of w f))) c o (slice_get w.comps c), outcome_limits (owing w f (fulfilled (owed_of w f))) c o (slice_get w.comps c)) within
-within_after w f (Peek c) within = within
 within_after w f (Fork text value) within = forked_within w (has_room w) refl within
-within_after w f (Say v) within = within
-within_after w f (End o) within = rw (length-set w.fibers (f - 1) (Ended o)) within
+within_after w f (End o) within = omega (arith, within, length-set w.fibers (f - 1) (Ended o))
+within_after w f _ within = within
 
 -- a fork finds no room exactly where there are as many fibers as there may be
 pub full_at_limit : (w : State) → IsWithin w → has_room w ≡ false → length w.fibers ≡ w.limits.fibers

@@ -1,24 +1,29 @@
 -- How many turns are over: as many as the fibers' own logs say, and each fiber has a number within the limit.
--- So where no fiber has more than so many turns, a history has no more than that for each fiber.
+-- A fiber's turns end by yields, and once by its end; so where no fiber yields more than so many times, a
+-- history has few turns.
 use Rattle.std.proofs.Common.{◌≡◌, ◌≢◌, ◌⊎◌, ℕ, zero, suc, ◌+◌, ◌*◌, ◌-◌, ◌<◌, ◌≤◌, inl, inr, eqb, Bool, true, false, List, [], ◌∷◌, ◌++◌, length, filter, refl, sym, ap, subst, ◌∙◌, append_assoc, arith}
 use Rattle.std.specs.List.{AllByRecursion}
-use Rattle.std.proofs.lemmas.Bool.Decides.{eqb_tells}
+use Rattle.std.proofs.lemmas.Bool.Decides.{eqb_tells, nat_tests}
 use Rattle.std.proofs.lemmas.List.{length-append}
 use Rattle.std.proofs.lemmas.List.Elements.{filter-append}
 use Rattle.std.proofs.lemmas.Option.{slice_get_within}
 use Rattle.pic_base.specs.declared.limits.Limits.{Limits}
+use Rattle.pic_base.specs.declared.outcome.Outcome.{Outcome}
 use Rattle.pic_machine.specs.declared.state.FiberState.TheVariants.{Live}
 use Rattle.pic_machine.specs.declared.entry.Call.{Call}
-use Rattle.pic_machine.specs.declared.entry.Call.TheVariants.{Turn, Yield, Complete, Peek, Fork, Say, End}
+use Rattle.pic_machine.specs.declared.entry.Call.TheVariants.{Turn, Yield, Complete, Peek, End}
 use Rattle.pic_machine.specs.declared.entry.Reply.{Reply}
 use Rattle.pic_machine.specs.Happened.{Happened}
 use Rattle.pic_machine.specs.State.{State}
-use Rattle.pic_machine.specs.Step.{IsLive, MayAct, after}
+use Rattle.pic_machine.specs.Step.{IsLive, MayAct, after, fibers_after}
 use Rattle.pic_machine.specs.History.{Origin, Follows, IsLegal, world, world_from}
 use Rattle.pic_machine.specs.Log.{is_logged, is_turn, log}
-use Rattle.pic_machine.specs.Order.{GoesOn, Stops, stops, turns_over}
+use Rattle.pic_machine.specs.Order.{GoesOn, Stops, is_yield, stops, turns_over, yields}
 use Rattle.pic_machine.proofs.Onward.{logged}
-use Rattle.pic_machine.proofs.Steps.{FiberMakes, IsWithin, limits_after, not_clock, within_after}
+use Rattle.pic_machine.proofs.Steps.{FiberMakes, IsWithin, not_clock, within_after}
+use Rattle.pic_machine.proofs.Ends.{HasEnded, ended_after, ended_there}
+use Rattle.pic_machine.proofs.Fates.{AreSteps, acts_not, steps}
+use Rattle.pic_machine.proofs.Standing.{not_logged}
 
 -- ---- lists
 
@@ -26,6 +31,31 @@ pub turns_over-append : (xs ys : List Happened) → turns_over (xs ++ ys) ≡ tu
 turns_over-append xs ys =
     let test : Happened → Bool = λ h. stops h.entry.call h.entry.reply in
     ap (λ (zs : List Happened). length zs) (filter-append test xs ys) ∙ length-append (filter test xs) (filter test ys)
+
+pub yields-append : (xs ys : List Happened) → yields (xs ++ ys) ≡ yields xs + yields ys
+yields-append xs ys =
+    let test : Happened → Bool = λ h. is_yield h.entry.call in
+    ap (λ (zs : List Happened). length zs) (filter-append test xs ys) ∙ length-append (filter test xs) (filter test ys)
+
+-- no entry within a turn is a yield
+goes_on_by : (call : Call) (reply : Reply) → stops call reply ≡ false → is_yield call ≡ false
+goes_on_by Yield reply on = absurd cc
+goes_on_by _ reply on = refl
+
+none_yield : (going : List Happened) → AllByRecursion GoesOn going → yields going ≡ 0
+none_yield [] on = refl
+none_yield (h ∷ going) on = rw (goes_on_by h.entry.call h.entry.reply on.0) (none_yield going on.1)
+
+one_yields : (h : Happened) (b : Bool) → is_yield h.entry.call ≡ b → yields (h ∷ []) ≤ 1
+one_yields h true yield = rw yield (omega arith)
+one_yields h false other = rw other (omega arith)
+
+-- a turn has one yield at most
+pub turn_yields : (going : List Happened) (last : Happened) → AllByRecursion GoesOn going → yields (going ++ last ∷ []) ≤ 1
+turn_yields going last on = omega (arith, yields-append going (last ∷ []), none_yield going on, one_yields last (is_yield last.entry.call) refl)
+
+pub yields-goes : (hs : List Happened) (h : Happened) → GoesOn h → yields (hs ++ h ∷ []) ≡ yields hs
+yields-goes hs h on = omega (arith, yields-append hs (h ∷ []), none_yield (h ∷ []) (on, tt))
 
 none_over : (going : List Happened) → AllByRecursion GoesOn going → turns_over going ≡ 0
 none_over [] on = refl
@@ -53,7 +83,7 @@ world_within w (h ∷ hs) within = world_within (after w h.entry.fiber h.entry.c
 
 pub world_limits : (w : State) (hs : List Happened) → (world_from w hs).limits ≡ w.limits
 world_limits w [] = refl
-world_limits w (h ∷ hs) = world_limits (after w h.entry.fiber h.entry.call) hs ∙ limits_after w h.entry.fiber h.entry.call
+world_limits w (h ∷ hs) = world_limits (after w h.entry.fiber h.entry.call) hs
 
 -- a live fiber has a number within the limit
 pub live_within : (origin : Origin) (hs : List Happened) (f : ℕ) → IsWithin origin.world → IsLive (world origin hs) f → f ≤ origin.world.limits.fibers
@@ -66,12 +96,7 @@ live_within origin hs f within live =
 
 ends_none : (call : Call) (reply : Reply) → is_turn call ≡ true → stops call reply ≡ false
 ends_none Turn reply is = refl
-ends_none Yield reply is = absurd cc
-ends_none (Complete c o) reply is = absurd cc
-ends_none (Peek c) reply is = absurd cc
-ends_none (Fork text value) reply is = absurd cc
-ends_none (Say v) reply is = absurd cc
-ends_none (End o) reply is = absurd cc
+ends_none _ reply is = absurd cc
 
 stops_within : (call : Call) (reply : Reply) (begins : Bool) → stops call reply ≡ true → is_turn call ≡ begins → is_turn call ≡ false
 stops_within call reply true stop is = let e : false ≡ true = sym (ends_none call reply is) ∙ stop in absurd cc
@@ -79,12 +104,9 @@ stops_within call reply false stop is = is
 
 stopping : (call : Call) (reply : Reply) → stops call reply ≡ true → FiberMakes call
 stopping Turn reply stop = absurd cc
-stopping Yield reply stop = tt
 stopping (Complete c o) reply stop = absurd cc
 stopping (Peek c) reply stop = absurd cc
-stopping (Fork text value) reply stop = tt
-stopping (Say v) reply stop = tt
-stopping (End o) reply stop = tt
+stopping _ reply stop = tt
 
 -- the fiber of such an entry
 record IsIn (limit f : ℕ) : Type 0 where
@@ -96,6 +118,50 @@ stopper origin front h within follows stop = one_on follows.may.allowed.caller w
   one_on : MayAct (world origin front) h.entry.fiber → IsIn origin.world.limits.fibers h.entry.fiber
   one_on (inl clock) = absurd (not_clock (world origin front) h.entry.fiber h.entry.call follows.may.allowed (stopping h.entry.call h.entry.reply stop) clock)
   one_on (inr live) = record { above = live.made; below = live_within origin front h.entry.fiber within live }
+
+-- ---- one fiber
+
+ends_how : (call : Call) (reply : Reply) → stops call reply ≡ true → (is_yield call ≡ true) ⊎ ((o : Outcome) × (call ≡ End o))
+ends_how Yield reply stop = inl refl
+ends_how (End o) reply stop = inr (o, refl)
+ends_how _ reply stop = absurd cc
+
+yields_first : (h : Happened) (hs : List Happened) (b : Bool) → is_yield h.entry.call ≡ b → yields hs ≤ yields (h ∷ hs)
+yields_first h hs true yield = rw yield (omega arith)
+yields_first h hs false other = rw other (omega arith)
+
+-- a fiber that has ended makes no entry
+idle_since : (w : State) (hs : List Happened) (place : ℕ) → AreSteps w hs → HasEnded w.fibers place → log hs (place + 1) ≡ []
+idle_since w [] place are ended = refl
+idle_since w (h ∷ hs) place are ended =
+    let other : h.entry.fiber ≢ place + 1 = acts_not w h.entry.fiber place ended.outcome are.0.allowed.caller ended.state in
+    rw (not_logged h (place + 1) other) (idle_since (after w h.entry.fiber h.entry.call) hs place are.1 (ended_after w h.entry.fiber h.entry.call place ended))
+
+-- so its turns end by yields, and once by its end
+over_once : (w : State) (hs : List Happened) (place : ℕ) → AreSteps w hs → turns_over (log hs (place + 1)) ≤ yields (log hs (place + 1)) + 1
+over_once w [] place are = omega arith
+over_once w (h ∷ hs) place are = one_on (over_once (after w h.entry.fiber h.entry.call) hs place are.1) (is_logged (place + 1) h) refl where
+  ended : (o : Outcome) → h.entry.fiber ≡ place + 1 → h.entry.call ≡ End o → log hs (place + 1) ≡ []
+  ended o mine is =
+      let fiber : h.entry.fiber ≢ 0 = λ zero_is. absurd (omega (arith, mine, zero_is)) in
+      let there : HasEnded (fibers_after w h.entry.fiber (End o)) (h.entry.fiber - 1) = ended_there w h.entry.fiber o fiber are.0.allowed.caller in
+      let here : HasEnded (fibers_after w h.entry.fiber h.entry.call) (h.entry.fiber - 1) = subst (λ (c : Call). HasEnded (fibers_after w h.entry.fiber c) (h.entry.fiber - 1)) (sym is) there in
+      let at : h.entry.fiber - 1 ≡ place = omega (arith, mine) in
+      idle_since (after w h.entry.fiber h.entry.call) hs place are.1 (subst (HasEnded (fibers_after w h.entry.fiber h.entry.call)) at here)
+
+  by_end : turns_over (log hs (place + 1)) ≤ yields (log hs (place + 1)) + 1 → h.entry.fiber ≡ place + 1 → Stops h → (is_yield h.entry.call ≡ true) ⊎ ((o : Outcome) × (h.entry.call ≡ End o)) → turns_over (h ∷ log hs (place + 1)) ≤ yields (h ∷ log hs (place + 1)) + 1
+  by_end rest mine stop (inl yield) = rw (stop, yield) (omega (arith, rest))
+  by_end rest mine stop (inr (o, is)) = rw (ended o mine is) (omega (arith, one_over h stop))
+
+  by_stop : turns_over (log hs (place + 1)) ≤ yields (log hs (place + 1)) + 1 → (b : Bool) → stops h.entry.call h.entry.reply ≡ b → h.entry.fiber ≡ place + 1 → turns_over (h ∷ log hs (place + 1)) ≤ yields (h ∷ log hs (place + 1)) + 1
+  by_stop rest true stop mine = by_end rest mine stop (ends_how h.entry.call h.entry.reply stop)
+  by_stop rest false on mine = let more = yields_first h (log hs (place + 1)) (is_yield h.entry.call) refl in rw on (omega (arith, rest, more))
+
+  one_on : turns_over (log hs (place + 1)) ≤ yields (log hs (place + 1)) + 1 → (b : Bool) → is_logged (place + 1) h ≡ b → turns_over (log (h ∷ hs) (place + 1)) ≤ yields (log (h ∷ hs) (place + 1)) + 1
+  one_on rest true logged_is =
+      let mine : h.entry.fiber ≡ place + 1 = grind (arith, nat_tests, logged_is) in
+      rw logged_is (by_stop rest (stops h.entry.call h.entry.reply) refl mine)
+  one_on rest false other = rw other rest
 
 -- ---- the sum over the fibers
 
@@ -144,10 +210,13 @@ counted origin front (h ∷ back) within legal =
           rw stop (omega (arith, rest, more))
       one_on false stop rest = rw stop (omega (arith, rest, over_grows h back origin.world.limits.fibers))
 
-few_up_to : (n most : ℕ) (hs : List Happened) → ((f : ℕ) → turns_over (log hs f) ≤ most) → over_up_to n hs ≤ n * most
-few_up_to zero most hs few = omega arith
-few_up_to (suc n) most hs few = omega (arith, few (suc n), few_up_to n most hs few)
+few_up_to : (origin : Origin) (hs : List Happened) (most n : ℕ) → AreSteps origin.world hs → ((f : ℕ) → yields (log hs f) ≤ most) → over_up_to n hs ≤ n * (most + 1)
+few_up_to origin hs most zero are few = omega arith
+few_up_to origin hs most (suc n) are few =
+    let next : n + 1 ≡ suc n = omega arith in
+    let once : turns_over (log hs (suc n)) ≤ yields (log hs (suc n)) + 1 = subst (λ (k : ℕ). turns_over (log hs k) ≤ yields (log hs k) + 1) next (over_once origin.world hs n are) in
+    omega (arith, few (suc n), once, few_up_to origin hs most n are few)
 
--- where no fiber has more than so many turns
-pub few_turns : (origin : Origin) (hs : List Happened) (most : ℕ) → IsWithin origin.world → IsLegal origin hs → ((f : ℕ) → turns_over (log hs f) ≤ most) → turns_over hs ≤ origin.world.limits.fibers * most
-few_turns origin hs most within legal few = omega (arith, counted origin [] hs within legal, few_up_to origin.world.limits.fibers most hs few)
+-- where no fiber yields more than so many times
+pub few_turns : (origin : Origin) (hs : List Happened) (most : ℕ) → IsWithin origin.world → IsLegal origin hs → ((f : ℕ) → yields (log hs f) ≤ most) → turns_over hs ≤ origin.world.limits.fibers * (most + 1)
+few_turns origin hs most within legal few = omega (arith, counted origin [] hs within legal, few_up_to origin hs most origin.world.limits.fibers (steps origin hs legal) few)

@@ -15,12 +15,9 @@ pub record Origin : Type 0 where
   pub world : State
   pub main : Birth
 
--- main has the start's text and is handed 0, and its current computation is the root
-abbrev pub origin_of : Start → Origin
-origin_of start = record {
-  world = world_at start;
-  main = record { text = start.text; value = 0; current = 0 };
-}
+-- the start's world, and main as it was born
+abbrev pub origin_of : Start → Birth → Origin
+origin_of start main = record { world = world_at start; main = main }
 
 -- an entry that made no fiber
 abbrev pub event : ℕ → Call → Reply → Happened

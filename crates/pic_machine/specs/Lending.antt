@@ -16,6 +16,7 @@ use Rattle.pic_machine.specs.Sight.{Carry, Sight, Notes, IsSame, Holds, fiber_of
 
 -- the port has seen these entries more, and is the same port
 pub record Later {S : Type 0} (old new : Sight S) (more : List Happened) : Type 0 where
+  pub board : new.board ≡ old.board
   pub origin : new.origin ≡ old.origin
   pub share : new.share ≡ old.share
   pub alone : new.alone ≡ old.alone

@@ -4,6 +4,7 @@ use Rattle.std.specs.List.{AllByRecursion}
 use Rattle.pic_machine.specs.declared.entry.Call.{Call}
 use Rattle.pic_machine.specs.declared.entry.Call.TheVariants.{Turn}
 use Rattle.pic_machine.specs.declared.entry.Entry.{Entry}
+use Rattle.pic_machine.specs.declared.entry.Reply.{Reply}
 use Rattle.pic_machine.specs.Happened.{Happened}
 
 abbrev pub is_turn : Call → Bool
@@ -18,9 +19,13 @@ is_logged f h = (h.entry.fiber == f) && not (is_turn h.entry.call)
 abbrev pub log : List Happened → ℕ → List Happened
 log hs f = filter (is_logged f) hs
 
--- the entries that a report shows: all but turns
+-- what a report leaves out: that a turn began
+abbrev pub is_hidden : Call → Reply → Bool
+is_hidden call reply = is_turn call
+
+-- the entries that a report shows
 abbrev pub is_visible : Happened → Bool
-is_visible h = not (is_turn h.entry.call)
+is_visible h = not (is_hidden h.entry.call h.entry.reply)
 
 abbrev pub visible : List Happened → List Entry
 visible hs = map (λ h. h.entry) (filter is_visible hs)

@@ -1,9 +1,10 @@
 -- The step of the machine: which calls a fiber may make, the reply to each, and the world after it.
-use Rattle.std.specs.Prelude.{◌≡◌, ℕ, ◌+◌, ◌-◌, ◌<◌, nat_lt, if◌then◌else◌, ◌⊎◌, Bool, Option, Some, None, List, [], ◌∷◌, ◌++◌, length, slice_get, slice_set, ⊤}
+use Rattle.std.specs.Prelude.{◌≡◌, ℕ, ◌+◌, ◌-◌, ◌<◌, nat_lt, if◌then◌else◌, ◌⊎◌, Bool, true, false, Option, Some, None, List, [], ◌∷◌, ◌++◌, length, slice_get, slice_set, ⊤}
 use Rattle.pic_base.specs.declared.duty.Duty.{Duty}
 use Rattle.pic_base.specs.declared.outcome.Outcome.{Outcome}
 use Rattle.pic_machine.specs.declared.state.CompState.{CompState}
 use Rattle.pic_machine.specs.declared.state.CompState.TheVariants.{Running, Done}
+use Rattle.pic_machine.specs.declared.state.FiberState.{FiberState}
 use Rattle.pic_machine.specs.declared.state.FiberState.TheVariants.{Live, Ended}
 use Rattle.pic_machine.specs.declared.entry.Call.{Call}
 use Rattle.pic_machine.specs.declared.entry.Call.TheVariants.{Complete, Peek, Fork, End}
@@ -70,25 +71,39 @@ abbrev pub MakesNoFiber : Call → Type 0
 MakesNoFiber (Fork text value) = ⊥
 MakesNoFiber _ = ⊤
 
--- ---- the world after
+-- ---- the world after, part by part
 
--- fiber f owes this from now on
-abbrev pub owing : State → ℕ → List Duty → State
-owing w f duties = record w { owed = slice_set w.owed f duties }
+-- the list with one thing more at its end, where it may grow
+abbrev pub grown : {A : Type 0} → Bool → List A → A → List A
+grown true xs x = xs ++ x ∷ []
+grown false xs x = xs
 
 -- a running computation is completed; a completed one stays as it is
-abbrev pub with_outcome : State → ℕ → Outcome → Option CompState → State
-with_outcome w c o None = w
-with_outcome w c o (Some Running) = record w { comps = slice_set w.comps c (Done o) }
-with_outcome w c o (Some (Done standing)) = w
+abbrev pub with_outcome : List CompState → ℕ → Outcome → Option CompState → List CompState
+with_outcome comps c o (Some Running) = slice_set comps c (Done o)
+with_outcome comps c o _ = comps
 
--- one fiber more, live and owing nothing, where there is room
-abbrev pub with_fiber : State → State
-with_fiber w = if has_room w then record w { fibers = w.fibers ++ Live ∷ []; owed = w.owed ++ [] ∷ [] } else w
+abbrev pub comps_after : State → Call → List CompState
+comps_after w (Complete c o) = with_outcome w.comps c o (slice_get w.comps c)
+comps_after w _ = w.comps
+
+-- a fork makes a live fiber, where there is room for one; an end ends the caller
+abbrev pub fibers_after : State → ℕ → Call → List FiberState
+fibers_after w f (Fork text value) = grown (has_room w) w.fibers Live
+fibers_after w f (End o) = slice_set w.fibers (f - 1) (Ended o)
+fibers_after w f _ = w.fibers
+
+-- a completion and a look fulfil the first duty of the caller; a fiber that is made owes nothing
+abbrev pub owed_after : State → ℕ → Call → List (List Duty)
+owed_after w f (Complete c o) = slice_set w.owed f (fulfilled (owed_of w f))
+owed_after w f (Peek c) = slice_set w.owed f (followed (owed_of w f) (slice_get w.comps c))
+owed_after w f (Fork text value) = grown (has_room w) w.owed []
+owed_after w f _ = w.owed
 
 abbrev pub after : State → ℕ → Call → State
-after w f (Complete c o) = with_outcome (owing w f (fulfilled (owed_of w f))) c o (slice_get w.comps c)
-after w f (Peek c) = owing w f (followed (owed_of w f) (slice_get w.comps c))
-after w f (Fork text value) = with_fiber w
-after w f (End o) = record w { fibers = slice_set w.fibers (f - 1) (Ended o) }
-after w f _ = w
+after w f call = record {
+  comps = comps_after w call;
+  fibers = fibers_after w f call;
+  owed = owed_after w f call;
+  limits = w.limits;
+}

@@ -1,7 +1,7 @@
-ghost use Rattle.std.specs.Prelude.{◌≡◌, ◌<◌, ◌↔◌, ℕ, length, replicate, slice_get, IsTrue, IfOk, OnOk, OnErr};
+ghost use Rattle.std.specs.Prelude.{◌≡◌, ◌<◌, ◌↔◌, ℕ, length, replicate, slice_get, slice_set, [], IsTrue, IfOk, OnOk, OnErr};
 ghost use Rattle.pic_machine.specs.State.{CanStart, owed_of, world_at};
 ghost use Rattle.pic_machine.specs.Duty.{followed, fulfilled};
-ghost use Rattle.pic_machine.specs.Step.{Allowed, IsLive, after, completed, fork_reply, owing, peeked, reply_of, with_fiber, with_outcome};
+ghost use Rattle.pic_machine.specs.Step.{Allowed, IsLive, after, completed, fork_reply, grown, has_room, peeked, reply_of, with_outcome};
 ghost use Rattle.pic_machine.specs.Final.{IsFinal};
 
 use crate::entry::{Call, CompleteReply, Reply};
@@ -116,34 +116,40 @@ impl World {
     fn complete(&mut self, comp: CompNo, outcome: Outcome) -> CompleteReply
         requires { comp < length self.old.comps }
         ensures reply { Reply.Completed result ≡ completed (slice_get self.old.comps comp) }
-        ensures after { self.new ≡ with_outcome self.old comp outcome (slice_get self.old.comps comp) }
-        ensures quiet { (f : ℕ) → owing self.old f (fulfilled (owed_of self.old f)) ≡ self.old }
+        ensures after { self.new ≡ record self.old {
+          comps = with_outcome self.old.comps comp outcome (slice_get self.old.comps comp);
+        } }
+        ensures quiet { (f : ℕ) → slice_set self.old.owed f (fulfilled (owed_of self.old f)) ≡ self.old.owed }
     {
-        let state = self.comps[comp as usize];
+        let state = &self.comps[comp as usize];
         match state {
             CompState::Running => {
                 self.comps[comp as usize] = CompState::Done(outcome);
                 CompleteReply::Won
             }
-            CompState::Done(standing) => CompleteReply::Lost(standing),
+            CompState::Done(standing) => CompleteReply::Lost(*standing),
         }
     }
 
     fn peek(&self, comp: CompNo) -> Option<Outcome>
         requires { comp < length self.now.comps }
         ensures reply { Reply.Peeked result ≡ peeked (slice_get self.now.comps comp) }
-        ensures quiet { (f : ℕ) → owing self.now f (followed (owed_of self.now f) (slice_get self.now.comps comp)) ≡ self.now }
+        ensures quiet { (f : ℕ) → slice_set self.now.owed f
+            (followed (owed_of self.now f) (slice_get self.now.comps comp)) ≡ self.now.owed }
     {
-        let state = self.comps[comp as usize];
+        let state = &self.comps[comp as usize];
         match state {
             CompState::Running => None,
-            CompState::Done(outcome) => Some(outcome),
+            CompState::Done(outcome) => Some(*outcome),
         }
     }
 
     fn fork(&mut self) -> Result<Reply, Memory>
         ensures reply { IfOk result (λ reply. reply ≡ fork_reply self.old) }
-        ensures after { OnOk result (self.new ≡ with_fiber self.old) }
+        ensures after { OnOk result (self.new ≡ record self.old {
+          fibers = grown (has_room self.old) self.old.fibers FiberState.Live;
+          owed = grown (has_room self.old) self.old.owed [];
+        }) }
         ensures err { OnErr result (self.new ≡ self.old) }
     {
         let count = self.fibers.len();

@@ -22,7 +22,7 @@ use Rattle.port_plain.proofs.Steps.{allowed_now, event_follows}
 
 module _ {B S : Type 0} (seen : B → Carry S) (fits : B → List Happened → Type 0) where
   pub later : (port : Shown B) (h : Happened) → Later (sight_of seen port) (sight_of seen (with_entry port h)) (h ∷ [])
-  later port h = record { origin = refl; share = refl; alone = refl; front = refl; steady = omega arith }
+  later port h = record { board = refl; origin = refl; share = refl; alone = refl; front = refl; steady = omega arith }
 
   -- a body that is there isn't that of a fiber that is away
   pub elsewhere : (bodies : List (Option B)) (f place : ℕ) (body : B) → IsAway bodies f → slice_get bodies place ≡ Some (Some body) → f ≢ place + 1
@@ -34,7 +34,7 @@ module _ {B S : Type 0} (seen : B → Carry S) (fits : B → List Happened → T
   -- bodies at home stay there while another fiber makes an entry
   pub still_home : (port : Shown B) (h : Happened) (f : ℕ) (body : B) → IsLegal (origin_of port.start) (port.front ++ h ∷ []) → h.entry.fiber ≢ f → IsHome seen fits (sight_of seen port) f body → IsHome seen fits (sight_of seen (with_entry port h)) f body
   still_home port h f body legal apart home =
-      home_stays seen fits (sight_of seen port) (sight_of seen (with_entry port h)) (h ∷ []) f body (later port h) legal (apart, tt) (λ owing. refl) home
+      home_stays seen fits (sight_of seen port) (sight_of seen (with_entry port h)) (h ∷ []) f body (later port h) legal (apart, tt) refl home
 
   -- the fiber whose body is out made an entry, by a call that makes no fiber
   pub entry_stored : (port : Shown B) (w v : State) (bodies : List (Option B)) (ticking : B) (h : Happened) → IsStored seen fits port w bodies ticking → port.out ≡ Some h.entry.fiber

@@ -27,31 +27,22 @@ use Rattle.pic_machine.proofs.Steps.{EndsNone, acts_own}
 -- ---- which calls are which
 
 pub lent_no_fiber : (call : Call) → IsLent call → MakesNoFiber call
-lent_no_fiber Turn is = absurd is
-lent_no_fiber Yield is = absurd is
 lent_no_fiber (Complete c o) is = tt
 lent_no_fiber (Peek c) is = tt
-lent_no_fiber (Fork text value) is = absurd is
 lent_no_fiber (Say v) is = tt
-lent_no_fiber (End o) is = absurd is
+lent_no_fiber _ is = absurd is
 
 pub lent_acts : (call : Call) → IsLent call → EndsNone call
-lent_acts Turn is = absurd is
-lent_acts Yield is = absurd is
 lent_acts (Complete c o) is = tt
 lent_acts (Peek c) is = tt
-lent_acts (Fork text value) is = absurd is
 lent_acts (Say v) is = tt
-lent_acts (End o) is = absurd is
+lent_acts _ is = absurd is
 
 pub lent_within : (call : Call) → IsLent call → is_turn call ≡ false
-lent_within Turn is = absurd is
-lent_within Yield is = absurd is
 lent_within (Complete c o) is = refl
 lent_within (Peek c) is = refl
-lent_within (Fork text value) is = absurd is
 lent_within (Say v) is = refl
-lent_within (End o) is = absurd is
+lent_within _ is = absurd is
 
 -- ---- the front
 
@@ -68,6 +59,7 @@ module _ {B S : Type 0} (seen : B → Carry S) (port : Shown B) (h : Happened) (
   onward out = record {
     origin = refl;
     share = refl;
+    board = refl;
     alone = refl;
     calm = refl;
     front = ap (λ (zs : List Happened). zs ++ h ∷ []) (sym (append-nil port.front));
@@ -113,22 +105,14 @@ module _ {B S : Type 0} (seen : B → Carry S) (port new : Shown B) (f : ℕ) (c
 -- ---- the calls with which a turn is over
 
 pub last_plain : (w : State) (f : ℕ) (call : Call) → IsLast call → reply_of w f call ≡ Plain
-last_plain w f Turn is = absurd is
 last_plain w f Yield is = refl
-last_plain w f (Complete c o) is = absurd is
-last_plain w f (Peek c) is = absurd is
-last_plain w f (Fork text value) is = absurd is
-last_plain w f (Say v) is = absurd is
 last_plain w f (End o) is = refl
+last_plain w f _ is = absurd is
 
 pub last_within : (call : Call) → IsLast call → is_turn call ≡ false
-last_within Turn is = absurd is
 last_within Yield is = refl
-last_within (Complete c o) is = absurd is
-last_within (Peek c) is = absurd is
-last_within (Fork text value) is = absurd is
-last_within (Say v) is = absurd is
 last_within (End o) is = refl
+last_within _ is = absurd is
 
 module _ {B S : Type 0} (seen : B → Carry S) (fits : B → List Happened → Type 0) (same_rest : B → B → Type 0) (port new : Shown B) (f : ℕ) (call : Call) (reply : Reply) (last : IsLast call) (made : new ≡ with_entry port (event f call reply))
     (follows : Follows (origin_of port.start) port.front (event f call reply)) (body : B) (holds : Holds (sight_of seen port) (seen body)) (number : (seen body).number ≡ Some f) where
@@ -234,4 +218,4 @@ module _ {B S : Type 0} (seen : B → Carry S) (fits : B → List Happened → T
   pub laid_back : (new : Shown B) → new ≡ record port { out = None } → IsLegal (origin_of port.start) port.front → Laid (sight_of seen port) (sight_of seen new) f
   laid_back new is legal =
       subst (λ (q : Shown B). Laid (sight_of seen port) (sight_of seen q) f) (sym is)
-      (record { grown = record { others = []; none = λ alone. refl; later = record { origin = refl; share = refl; alone = refl; front = sym (append-nil port.front); steady = omega arith }; legal = legal }; not_mine = tt; calm = refl })
+      (record { grown = record { others = []; none = λ alone. refl; later = record { board = refl; origin = refl; share = refl; alone = refl; front = sym (append-nil port.front); steady = omega arith }; legal = legal }; not_mine = tt; calm = refl })

@@ -21,27 +21,16 @@ use Rattle.port_plain.specs.Paired.{HasEachBirth, is_making, makes_fiber, paired
 -- ---- which entries made a fiber
 
 pub making_none : (call : Call) (reply : Reply) → MakesNoFiber call → is_making call reply ≡ false
-making_none Turn reply none = refl
-making_none Yield reply none = refl
-making_none (Complete c o) reply none = refl
-making_none (Peek c) reply none = refl
 making_none (Fork text value) reply none = absurd none
-making_none (Say v) reply none = refl
-making_none (End o) reply none = refl
+making_none _ reply none = refl
 
 pub making_full : (text value : ℕ) (reply : Reply) → None ≡ made_of reply → is_making (Fork text value) reply ≡ false
-making_full text value Plain none = refl
-making_full text value Full none = refl
 making_full text value (Made g) none = absurd (let e : None ≡ Some g = none in cc)
-making_full text value (Completed how) none = refl
-making_full text value (Peeked seen) none = refl
+making_full text value _ none = refl
 
 pub making_one : (text value n : ℕ) (reply : Reply) → Some n ≡ made_of reply → (is_making (Fork text value) reply ≡ true) × (reply ≡ Made n)
-making_one text value n Plain made = absurd (let e : Some n ≡ None = made in cc)
-making_one text value n Full made = absurd (let e : Some n ≡ None = made in cc)
 making_one text value n (Made g) made = (refl, let e : Some n ≡ Some g = made in cc)
-making_one text value n (Completed how) made = absurd (let e : Some n ≡ None = made in cc)
-making_one text value n (Peeked seen) made = absurd (let e : Some n ≡ None = made in cc)
+making_one text value n _ made = absurd (let e : Some n ≡ None = made in cc)
 
 -- ---- one entry more
 

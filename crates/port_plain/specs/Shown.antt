@@ -46,6 +46,7 @@ listed owing = first_duty owing.first ++ flat_map walked owing.walks
 -- the port is alone, and nobody is ever in its way
 abbrev pub sight_of : {B S : Type 0} → (B → Carry S) → Shown B → Sight S
 sight_of seen port = record {
+  board = [];
   origin = origin_of port.start;
   share = (seen port.main).share;
   alone = true;

@@ -64,7 +64,8 @@ impl<B: Carried> PlainPort<B> {
 
     /// The entries of all that happened so far.
     pub fn history(&self) -> &[Entry]
-        ensures { result.now ≡ entries self.now.front }
+        ensures entries { result.now ≡ entries self.now.front }
+        ensures legal { IsLegal (origin_of self.now.start) self.now.front }
     {
         self.history.as_slice()
     }

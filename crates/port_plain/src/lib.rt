@@ -5,7 +5,8 @@
 //! each clause of which it keeps, at the sight of `specs/Shown.antt` (it is alone, and nobody is ever in
 //! its way, so no call answers `Again`); `open`; `history`, the entries of the front, and `births`, those
 //! of the fibers that it made; `world`, to which it leads; and `close`, which hands out each body as the
-//! history says that it is (`IsLeft` of `specs/Closing.antt`), and `close_with_history`, which hands out the
+//! history says that it is (`IsLeft` of `pic_machine`), with what it owes (`OwesAsLeft` of
+//! `specs/Closing.antt`), and `close_with_history`, which hands out the
 //! entries too.
 #![tactic(auto)]
 

@@ -2,9 +2,9 @@ ghost use Rattle.std.specs.Prelude.{◌≡◌, ◌↔◌, ◌∷◌, [], ◌++�
 ghost use Rattle.pic_machine.specs.State.{CanStart};
 ghost use Rattle.pic_machine.specs.Final.{IsFinal};
 ghost use Rattle.pic_machine.specs.Step.{IsLive};
-ghost use Rattle.pic_machine.specs.History.{IsLegal, origin_of, world};
+ghost use Rattle.pic_machine.specs.History.{IsLegal, world};
 ghost use Rattle.pic_machine.specs.Log.{entries};
-ghost use Rattle.port_plain.specs.Shown.{IsMain, IsClock, births_in};
+ghost use Rattle.port_plain.specs.Shown.{IsMain, IsClock, births_in, origin_in};
 
 use pic_base::{FiberNo, Memory};
 use pic_machine::{Birth, Carried, Entry, Start, World};
@@ -56,7 +56,7 @@ impl<B: Carried> Model for PlainPort<B> {
 impl<B: Carried> PlainPort<B> {
     /// The world that the history leads to.
     pub fn world(&self) -> &World
-        ensures now { result.now ≡ world (origin_of self.now.start) self.now.front }
+        ensures now { result.now ≡ world (origin_in B.seen self.now) self.now.front }
         ensures start { CanStart self.now.start }
     {
         &self.world
@@ -65,7 +65,7 @@ impl<B: Carried> PlainPort<B> {
     /// The entries of all that happened so far.
     pub fn history(&self) -> &[Entry]
         ensures entries { result.now ≡ entries self.now.front }
-        ensures legal { IsLegal (origin_of self.now.start) self.now.front }
+        ensures legal { IsLegal (origin_in B.seen self.now) self.now.front }
     {
         self.history.as_slice()
     }
@@ -79,16 +79,16 @@ impl<B: Carried> PlainPort<B> {
 
     /// Whether the fiber is live.
     pub(crate) fn is_live(&self, fiber: FiberNo) -> bool
-        ensures legal { IsLegal (origin_of self.now.start) self.now.front }
-        ensures live { IsTrue result ↔ IsLive (world (origin_of self.now.start) self.now.front) fiber }
+        ensures legal { IsLegal (origin_in B.seen self.now) self.now.front }
+        ensures live { IsTrue result ↔ IsLive (world (origin_in B.seen self.now) self.now.front) fiber }
     {
         self.world.is_live(fiber)
     }
 
     /// Whether nothing is left to do.
     pub(crate) fn is_final(&self) -> bool
-        ensures legal { IsLegal (origin_of self.now.start) self.now.front }
-        ensures done { IsTrue result ↔ IsFinal (world (origin_of self.now.start) self.now.front) }
+        ensures legal { IsLegal (origin_in B.seen self.now) self.now.front }
+        ensures done { IsTrue result ↔ IsFinal (world (origin_in B.seen self.now) self.now.front) }
     {
         self.world.is_final()
     }

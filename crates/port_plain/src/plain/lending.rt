@@ -1,11 +1,11 @@
 //! Calls for a body that is out: it is lent and stays out, or is handed over and comes back.
 ghost use Rattle.std.specs.Prelude.{◌≡◌, ◌≢◌, None, IfErr, IfOk, OnOk};
 ghost use Rattle.pic_machine.specs.Step.{reply_of};
-ghost use Rattle.pic_machine.specs.History.{event, origin_of, world};
+ghost use Rattle.pic_machine.specs.History.{event, world};
 ghost use Rattle.pic_machine.specs.Log.{log};
 ghost use Rattle.pic_machine.specs.Sight.{CanMake, fiber_of};
 ghost use Rattle.pic_machine.specs.Lending.{Called, FitsWith, Made, Refuses};
-ghost use Rattle.port_plain.specs.Shown.{IsLast, IsLent, sight_of};
+ghost use Rattle.port_plain.specs.Shown.{IsLast, IsLent, origin_in, sight_of};
 
 use super::PlainPort;
 use pic_machine::{Call, Carried, Entry, PortFault, Reply};
@@ -18,7 +18,7 @@ impl<B: Carried> PlainPort<B> {
         ensures made { IfOk result (λ reply. Called (sight_of B.seen self.old) (sight_of B.seen self.new)
             (B.seen body.old) (B.seen body.new) call reply) }
         ensures reply { IfOk result (λ reply. reply ≡ reply_of
-            (world (origin_of self.old.start) self.old.front) (fiber_of (B.seen body.old)) call) }
+            (world (origin_in B.seen self.old) self.old.front) (fiber_of (B.seen body.old)) call) }
         ensures none { IfErr result (λ fault. Refuses fault (sight_of B.seen self.old)
             (sight_of B.seen self.new) (B.seen body.old) (B.seen body.new)) }
         ensures rest { B.same_rest body.old body.new }

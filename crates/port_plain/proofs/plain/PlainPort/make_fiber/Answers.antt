@@ -4,7 +4,7 @@ use Rattle.pic_machine.specs.declared.entry.Reply.TheVariants.{Full}
 use Rattle.pic_machine.specs.History.{event, forked}
 use Rattle.port_plain.specs.Paired.{paired}
 use Rattle.port_plain.specs.Shown.{Shown}
-use Rattle.port_plain.proofs.Forking.{fork_stored, full_follows, full_reply, full_stored}
+use Rattle.port_plain.proofs.Forking.{fork_stored, full_follows, full_reply, full_stored, made_follows}
 use Rattle.port_plain.proofs.Pairing.{event_births, event_front, forked_births, forked_front, making_full, shown_more, stored_more}
 use Rattle.port_plain.proofs.plain.PlainPort.make_fiber.Goals as goal
 
@@ -45,6 +45,13 @@ returns-in-Some-clause-made g c =
     let all : c.push_reserved-in-Some.new.self.items ≡ c.self.inside.births.items ++ (g.B.Carried.seen c.args.child).birth ∷ [] = rw (c.push_reserved-in-Some.ensures.items, c.birth.ensures, c.reserve-else-is_err.ensures.items) refl in
     let front = forked_front c.self.inside.history.items c.push_reserved.new.self.items c.self.inside.births.items c.push_reserved-in-Some.new.self.items c.args.fiber c.args.text c.args.value c.in-Some.number c.in-Ok.reply (g.B.Carried.seen c.args.child).birth more all c.in-Some.ensures c.self.invariant.1 c.requires.child.same_text c.requires.child.same_value in
     shown_more port (paired c.push_reserved.new.self.items c.push_reserved-in-Some.new.self.items) (forked c.args.fiber c.in-Some.number (g.B.Carried.seen c.args.child).birth) front c.args.self.now c.self.view_is
+
+pub returns-in-Some-clause-follows : goal.returns-in-Some-clause-follows
+returns-in-Some-clause-follows g c =
+    let port : Shown g.row.B.Denot = record { start = c.self.inside.start; main = c.self.inside.main.value; front = paired c.self.inside.history.items c.self.inside.births.items; out = c.self.inside.out } in
+    made_follows g.B.Carried.seen g.B.Carried.fits port c.args.self.now c.self.inside.world c.self.inside.bodies.items c.self.inside.clock c.self.view_is c.self.invariant.0
+    c.args.fiber c.args.text c.args.value c.requires.may c.requires.out c.in-Ok.reply c.in-Ok.ensures.reply c.apply.new.self c.in-Ok.ensures.after
+    c.in-Some.number c.in-Some.ensures c.args.child c.number.new.self c.requires.child
 
 pub returns-in-None-clause-err : goal.returns-in-None-clause-err
 returns-in-None-clause-err g c =

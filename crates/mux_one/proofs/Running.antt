@@ -3,16 +3,16 @@ use Rattle.std.proofs.Common.{◌≡◌, ◌≢◌, ◌⊎◌, ℕ, ◌+◌, ◌
 use Rattle.std.specs.List.{AllByRecursion}
 use Rattle.std.specs.Prelude.{⊤}
 use Rattle.std.proofs.lemmas.Bool.Decides.{eqb_tells}
-use Rattle.pic_base.specs.declared.limits.TheConstants.{STEPS}
+use Rattle.pic_base.specs.Steps.{most_steps}
 use Rattle.pic_machine.specs.declared.entry.Call.TheVariants as call
 use Rattle.pic_machine.specs.declared.entry.Reply.TheVariants as reply
 use Rattle.pic_machine.specs.Happened.{Happened}
 use Rattle.pic_machine.specs.State.{CanStart}
 use Rattle.pic_machine.specs.Final.{IsFinal}
 use Rattle.pic_machine.specs.Step.{IsLive}
-use Rattle.pic_machine.specs.History.{Origin, event, origin_of, world}
+use Rattle.pic_machine.specs.History.{Origin, event, world}
 use Rattle.pic_machine.specs.Log.{Others, log}
-use Rattle.pic_machine.specs.Order.{IsOwn, begin, turns_over}
+use Rattle.pic_machine.specs.Order.{IsOwn, begin, turns_over, yields}
 use Rattle.pic_machine.specs.Sight.{Carry, Holds, Sight, fiber_of}
 use Rattle.pic_machine.specs.Lending.{Began, Kept}
 use Rattle.pic_machine.specs.Turning.{Stopped}
@@ -20,22 +20,22 @@ use Rattle.pic_machine.proofs.Histories.{IsLegal-nil}
 use Rattle.pic_machine.proofs.Quiet.{IsQuiet, IsQuiet-all, IsQuiet-start, IsQuiet-world}
 use Rattle.pic_machine.proofs.Readiness.{IsReady, all_ended, first_is_live, ready_is_live}
 use Rattle.pic_machine.proofs.Standing.{log_stays}
-use Rattle.pic_machine.proofs.Turnings.{few_turns, live_within, turn_over, turns_over-append}
+use Rattle.pic_machine.proofs.Turnings.{few_turns, live_within, turn_over, turn_yields, turns_over-append, yields-append}
 use Rattle.pic_machine.proofs.Turns.{turn_in_order}
-use Rattle.port_plain.specs.Shown.{Shown, sight_of}
+use Rattle.port_plain.specs.Shown.{Shown, origin_in, sight_of}
 use Rattle.mux_one.specs.UnderWay.{IsUnderWay, told_by}
 
 -- ---- between two turns
 
 module _ {S : Type 0} (p : Sight S) (ready : List ℕ) (now : IsUnderWay p ready) where
   are_ready : IsReady (world p.origin p.front) ready
-  are_ready = ready_is_live p.origin p.front ready now.main now.legal now.order
+  are_ready = ready_is_live (λ before. before ≡ []) p.origin p.front ready now.main now.legal now.order
 
   within : length p.origin.world.fibers ≤ p.origin.world.limits.fibers
   within = rw now.main now.room
 
-  pub few_over : turns_over p.front ≤ p.origin.world.limits.fibers * (STEPS + 2)
-  few_over = few_turns p.origin p.front (STEPS + 2) within now.legal now.few
+  pub few_over : turns_over p.front ≤ p.origin.world.limits.fibers * (most_steps + 2)
+  few_over = few_turns p.origin p.front (most_steps + 1) within now.legal now.few
 
 -- the first of the line is live
 pub first_live : {S : Type 0} (p : Sight S) (f : ℕ) (ready : List ℕ) → IsUnderWay p (f ∷ ready) → IsLive (world p.origin p.front) f
@@ -82,28 +82,28 @@ module _ {S : Type 0} (p q r : Sight S) (f : ℕ) (ready line : List ℕ) (How :
   origins : r.origin ≡ p.origin
   origins = stopped.grew.later.origin ∙ began.later.origin
 
-  few_mine : turns_over (log q.front f) ≤ STEPS + 1 → turns_over (log r.front f) ≤ STEPS + 2
+  few_mine : yields (log q.front f) ≤ most_steps → yields (log r.front f) ≤ most_steps + 1
   few_mine few =
-      let more : turns_over (log r.front f) ≡ turns_over (log q.front f) + turns_over own = ap (λ (zs : List Happened). turns_over zs) stopped.grew.log ∙ turns_over-append (log q.front f) own in
-      omega (arith, more, few, one)
+      let more : yields (log r.front f) ≡ yields (log q.front f) + yields own = ap (λ (zs : List Happened). yields zs) stopped.grew.log ∙ yields-append (log q.front f) own in
+      omega (arith, more, few, turn_yields stopped.going stopped.final stopped.on)
 
   log_other : (g : ℕ) → f ≢ g → log r.front g ≡ log p.front g
   log_other g other =
       ap (λ (zs : List Happened). log zs g) done ∙ (log_stays q.front own g (own_others f g own other stopped.grew.own)
       ∙ (ap (λ (zs : List Happened). log zs g) begun ∙ log_stays p.front (event f call.Turn reply.Plain ∷ []) g (other, tt)))
 
-  few_each : ((g : ℕ) → turns_over (log p.front g) ≤ STEPS + 2) → turns_over (log q.front f) ≤ STEPS + 1 → (g : ℕ) → turns_over (log r.front g) ≤ STEPS + 2
+  few_each : ((g : ℕ) → yields (log p.front g) ≤ most_steps + 1) → yields (log q.front f) ≤ most_steps → (g : ℕ) → yields (log r.front g) ≤ most_steps + 1
   few_each each few g = one_on (eqb_tells f g) where
-    one_on : ((eqb f g ≡ true) × (f ≡ g)) ⊎ ((eqb f g ≡ false) × (f ≢ g)) → turns_over (log r.front g) ≤ STEPS + 2
-    one_on (inl mine) = subst (λ (n : ℕ). turns_over (log r.front n) ≤ STEPS + 2) mine.1 (few_mine few)
-    one_on (inr other) = subst (λ (zs : List Happened). turns_over zs ≤ STEPS + 2) (sym (log_other g other.1)) (each g)
+    one_on : ((eqb f g ≡ true) × (f ≡ g)) ⊎ ((eqb f g ≡ false) × (f ≢ g)) → yields (log r.front g) ≤ most_steps + 1
+    one_on (inl mine) = subst (λ (n : ℕ). yields (log r.front n) ≤ most_steps + 1) mine.1 (few_mine few)
+    one_on (inr other) = subst (λ (zs : List Happened). yields zs ≤ most_steps + 1) (sym (log_other g other.1)) (each g)
 
-  pub next_turn : IsUnderWay p (f ∷ ready) → turns_over (log q.front f) ≤ STEPS + 1 → IsUnderWay r line
+  pub next_turn : IsUnderWay p (f ∷ ready) → yields (log q.front f) ≤ most_steps → IsUnderWay r line
   next_turn now few = record {
     main = ap (λ (o : Origin). o.world.fibers) origins ∙ now.main;
     room = subst (λ (o : Origin). 1 ≤ o.world.limits.fibers) (sym origins) now.room;
     legal = stopped.legal;
-    order = turn_in_order p q r f ready line How alone now.order began stopped;
+    order = turn_in_order (λ before. before ≡ []) p q r f [] ready line How alone now.order refl began stopped;
     few = few_each now.few few;
     out = stopped.out;
   }
@@ -134,16 +134,16 @@ module _ {B S : Type 0} (seen : B → Carry S) (fits : B → List Happened → T
   pub turn_further : turns_over new.front ≡ turns_over old.front + 1
   turn_further = one_further (sight_of seen old) (sight_of seen mid) (sight_of seen new) f ready line (λ h. ⊤) refl began over
 
-  pub turn_under_way : ((log : List Happened) → (seen body).number ≢ Some 0 → fits body log → turns_over log ≤ STEPS + 1) → IsUnderWay (sight_of seen new) line
+  pub turn_under_way : ((log : List Happened) → (seen body).number ≢ Some 0 → fits body log → yields log ≤ most_steps) → IsUnderWay (sight_of seen new) line
   turn_under_way few =
       let numbered : (seen body).number ≢ Some 0 = not_clock (seen body) f held.0.number held.1 (first_in_range (sight_of seen old) f ready under_way).0 in
       next_turn (sight_of seen old) (sight_of seen mid) (sight_of seen new) f ready line (λ h. ⊤) refl began over under_way (few (log mid.front f) numbered held.2)
 
 -- a port whose work is done found so
-pub found_over : {B S : Type 0} (seen : B → Carry S) (old new : Shown B) → IsUnderWay (sight_of seen old) [] → Kept (sight_of seen old) (sight_of seen new) → IsFinal (world (origin_of new.start) new.front)
+pub found_over : {B S : Type 0} (seen : B → Carry S) (old new : Shown B) → IsUnderWay (sight_of seen old) [] → Kept (sight_of seen old) (sight_of seen new) → IsFinal (world (origin_in seen new) new.front)
 found_over seen old new now kept =
     let front : new.front ≡ old.front = kept.grown.later.front ∙ (ap (λ (zs : List Happened). old.front ++ zs) (kept.grown.none refl) ∙ append-nil old.front) in
-    subst (λ (zs : List Happened). IsFinal (world (origin_of new.start) zs)) (sym front)
+    subst (λ (zs : List Happened). IsFinal (world (origin_in seen new) zs)) (sym front)
     (subst (λ (o : Origin). IsFinal (world o old.front)) (sym kept.grown.later.origin) (all_over (sight_of seen old) now (IsQuiet-start old.start)))
 
 -- ---- the whole run
@@ -153,7 +153,7 @@ pub at_start : {B S : Type 0} (seen : B → Carry S) (port : Shown B) → port.f
 at_start seen port fresh out can = record {
   main = refl;
   room = can.main;
-  legal = rw fresh (IsLegal-nil (origin_of port.start));
+  legal = rw fresh (IsLegal-nil (origin_in seen port));
   order = rw fresh begin;
   few = λ f. rw fresh (omega arith);
   out = out;
@@ -161,16 +161,16 @@ at_start seen port fresh out can = record {
 
 -- what stands before each turn of a run that began with this port
 pub record Runs {B S : Type 0} (seen : B → Carry S) (polls : Sight S → Type 0) (from port : Shown B) (lost : Bool) (ready : List ℕ) : Type 0 where
-  pub origin : origin_of port.start ≡ origin_of from.start
+  pub origin : origin_in seen port ≡ origin_in seen from
   pub share : (seen port.main).share ≡ (seen from.main).share
   pub polls_it : polls (sight_of seen port)
   pub whole : lost ≡ false
   pub under_way : IsUnderWay (sight_of seen port) ready
 
 -- each turn leaves fewer to come
-pub fewer_left : {B S : Type 0} (seen : B → Carry S) (from old new : Shown B) (ready : List ℕ) → origin_of new.start ≡ origin_of from.start → IsUnderWay (sight_of seen new) ready
-    → turns_over new.front ≡ turns_over old.front + 1 → from.start.limits.fibers * (STEPS + 2) - turns_over new.front < from.start.limits.fibers * (STEPS + 2) - turns_over old.front
+pub fewer_left : {B S : Type 0} (seen : B → Carry S) (from old new : Shown B) (ready : List ℕ) → origin_in seen new ≡ origin_in seen from → IsUnderWay (sight_of seen new) ready
+    → turns_over new.front ≡ turns_over old.front + 1 → from.start.limits.fibers * (most_steps + 2) - turns_over new.front < from.start.limits.fibers * (most_steps + 2) - turns_over old.front
 fewer_left seen from old new ready origin now further =
     let limit : new.start.limits.fibers ≡ from.start.limits.fibers = ap (λ (o : Origin). o.world.limits.fibers) origin in
-    let most : turns_over new.front ≤ from.start.limits.fibers * (STEPS + 2) = subst (λ (n : ℕ). turns_over new.front ≤ n * (STEPS + 2)) limit (few_over (sight_of seen new) ready now) in
+    let most : turns_over new.front ≤ from.start.limits.fibers * (most_steps + 2) = subst (λ (n : ℕ). turns_over new.front ≤ n * (most_steps + 2)) limit (few_over (sight_of seen new) ready now) in
     omega (arith, most, further)

@@ -1,12 +1,12 @@
 //! Runs in the FIFO order, of bodies that yield so many times and then end.
 ghost use Rattle.std.specs.Prelude.{◌≡◌, ◌≢◌, ◌+◌, ◌-◌, ◌≤◌, ◌<◌, [], Some, None, Err, length, vec_len, vec_capacity};
 ghost use Rattle.std.proofs.Common.{◌∙◌, sym, arith, refl};
-ghost use Rattle.pic_base.specs.declared.limits.TheConstants.{STEPS};
+ghost use Rattle.pic_base.specs.Steps.{most_steps};
 ghost use Rattle.pic_machine.specs.Log.{log, visible};
-ghost use Rattle.pic_machine.specs.Order.{turns_over};
+ghost use Rattle.pic_machine.specs.Order.{yields};
 ghost use Rattle.pic_machine.specs.Sight.{Holds, fiber_of, nothing};
 ghost use Rattle.pic_machine.specs.Turning.{Polled, Went};
-ghost use Rattle.pic_machine.specs.Lending.{Rose};
+ghost use Rattle.pic_machine.specs.Lending.{Calm, Rose};
 
 use super::run_fifo;
 use pic_base::{FiberNo, Limits, Memory, Outcome};
@@ -17,8 +17,7 @@ use port_plain::PlainPort;
 use std::alloc::Global;
 use std::test::Fail;
 
-/// It has so many turns left, the one in which it ends included, and may fork a child
-/// in its first one.
+/// It has so many turns left, the one in which it ends included, and may fork a child in its first one.
 #[derive(Drop)]
 struct Patient {
     birth: Birth,
@@ -43,7 +42,7 @@ impl Carried for Patient {
     ghost same_rest = { λ old new. new.left ≡ old.left };
 
     ghost fits = { λ body log. (body.noted.items ≡ visible log)
-        × (body.number ≢ Some 0 → turns_over log + body.left ≤ STEPS + 1) };
+        × (body.number ≢ Some 0 → yields log + body.left ≤ most_steps) };
 
     fn birth(&self) -> Birth {
         self.birth
@@ -158,6 +157,7 @@ fn fork_child<P: Port<Body = Patient>, R: ReadyLine>(
     ensures left { body.new.left ≡ body.old.left }
     ensures again { result ≡ Err PortFault.Again
         → Rose (P.sight port.old).contention (P.sight port.new).contention }
+    ensures calm { result ≢ Err PortFault.Again → Calm (P.sight port.old) (P.sight port.new) }
 {
     let child = Patient::new(alloc, 4, 2, false);
     match port.fork(body, 4, 0, child) {
@@ -233,7 +233,7 @@ fn stop_with_room<P: Port<Body = Patient>, R: ReadyLine>(
 
 /// The body whose turn could not end, with the turn that it had taken.
 fn refused(body: Patient, fault: PortFault) -> Turn<Patient>
-    requires few { body.left ≤ STEPS }
+    requires few { body.left < most_steps }
     ensures again { fault ≡ PortFault.Again → result ≡ Turn.Again (record body { left = body.left + 1 }) }
     ensures memory { fault ≢ PortFault.Again → result ≡ Turn.Memory (record body { left = body.left + 1 }) }
 {
@@ -283,7 +283,8 @@ fn start() -> Start
 #[test]
 fn fibers_take_turns_and_end(rt: HostRuntime) -> Result<(), Fail> {
     let main = Patient::new(rt.alloc(), 3, 2, true);
-    let clock = Patient::new(rt.alloc(), 0, 0, false);
+    let mut clock = Patient::new(rt.alloc(), 0, 0, false);
+    clock.number(0);
     let port = PlainPort::open(rt.alloc(), &start(), main, clock)?;
     let poller = Patiently { alloc: rt.alloc() };
     let done = run_fifo(rt.alloc(), &poller, port)?;

@@ -1,7 +1,10 @@
 -- Where not all is over, a fiber is live or owes.
-use Rattle.std.proofs.Common.{◌≡◌, ◌≢◌, ◌⊎◌, ℕ, suc, ◌-◌, inl, inr, Some, List, [], ◌∷◌, slice_get, slice_index_or, refl, ap, ◌∙◌, arith}
+use Rattle.std.proofs.Common.{◌≡◌, ◌≢◌, ◌⊎◌, ℕ, suc, ◌<◌, ◌≤◌, ◌-◌, inl, inr, Some, List, [], ◌∷◌, length, slice_get, slice_index_or, refl, sym, ap, ◌∙◌, arith}
 use Rattle.std.specs.Prelude.{All}
+use Rattle.std.proofs.lemmas.Bool.{cases_lt}
+use Rattle.std.proofs.Math.ListN.{get_or-eq_default}
 use Rattle.std.proofs.lemmas.List.Elements.{All-cons, All-nil}
+use Rattle.std.proofs.lemmas.Option.{slice_get-get_or, slice_get_within}
 use Rattle.pic_base.specs.declared.duty.Duty.{Duty}
 use Rattle.pic_machine.specs.declared.state.FiberState.{FiberState}
 use Rattle.pic_machine.specs.declared.state.FiberState.TheVariants.{Live, Ended}
@@ -45,3 +48,16 @@ busy_unless_final w unfinished = found (live_or_none w.fibers) (owing_or_none w.
       live (suc there.place) (record { made = omega arith; live = ap (slice_get w.fibers) here ∙ there.state })
   found (inr none) (inl there) = owes there.fiber there.duty there.duties there.is
   found (inr none) (inr quiet) = absurd (unfinished (record { ended = none; owed = quiet }))
+
+none_owed : (owed : List (List Duty)) (f : ℕ) → All (λ duties. duties ≡ []) owed → (f < length owed) ⊎ (length owed ≤ f) → slice_index_or owed f [] ≡ []
+none_owed owed f none (inl within) = none f [] within
+none_owed owed f none (inr past) = get_or-eq_default owed [] past
+
+-- not both
+pub final_or_busy : (w : State) → IsFinal w → IsBusy w → ⊥
+final_or_busy w final (live f is) =
+    let within : f - 1 < length w.fibers = slice_get_within w.fibers (f - 1) Live is.live in
+    let there : Some (slice_index_or w.fibers (f - 1) Live) ≡ Some Live = sym (slice_get-get_or w.fibers (f - 1) Live within) ∙ is.live in
+    final.ended (f - 1) Live within (let same : slice_index_or w.fibers (f - 1) Live ≡ Live = cc in same)
+final_or_busy w final (owes f duty duties is) =
+    let e : [] ≡ duty ∷ duties = sym (none_owed w.owed f final.owed (cases_lt f (length w.owed))) ∙ is in cc

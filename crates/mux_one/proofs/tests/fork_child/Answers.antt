@@ -1,5 +1,5 @@
 use Rattle.std.proofs.Common.{◌≡◌, ◌≢◌, ℕ, ◌+◌, ◌-◌, ◌≤◌, ◌<◌, Some, Option, List, [], ◌∷◌, ◌++◌, length, refl, sym, ap, subst, ◌∙◌, false, vec_capacity, vec_len}
-use Rattle.pic_base.specs.declared.limits.TheConstants.{STEPS}
+use Rattle.pic_base.specs.Steps.{most_steps}
 use Rattle.pic_machine.specs.declared.birth.Birth.{Birth}
 use Rattle.pic_machine.specs.declared.entry.Call.TheVariants as call
 use Rattle.pic_machine.specs.declared.entry.Reply.TheVariants as reply
@@ -7,12 +7,12 @@ use Rattle.pic_machine.specs.Happened.{Happened}
 use Rattle.pic_machine.specs.declared.port.PortFault.{PortFault}
 use Rattle.pic_machine.specs.History.{event, forked}
 use Rattle.pic_machine.specs.Log.{is_turn, log, visible}
-use Rattle.pic_machine.specs.Order.{GoesOn, turns_over}
+use Rattle.pic_machine.specs.Order.{GoesOn, yields}
 use Rattle.pic_machine.specs.Sight.{Carry, Sight, fiber_of, nothing}
 use Rattle.pic_machine.specs.Lending.{Lent, RefusesMaking, Spared}
 use Rattle.pic_machine.proofs.Comps.{comps_stay}
 use Rattle.pic_machine.proofs.Polls.{log_spared}
-use Rattle.pic_machine.proofs.Turnings.{turns_over-goes}
+use Rattle.pic_machine.proofs.Turnings.{yields-goes}
 use Rattle.pic_machine.proofs.Turns.{Adds-nil, grew_made, went_lent, went_spared}
 use Rattle.mux_one.specs.declared.tests.Patient.{Patient}
 use Rattle.mux_one.proofs.tests.fork_child.Goals as goal
@@ -29,7 +29,7 @@ seen_of body = record {
 
 -- a body fits so far
 abbrev Fitting : {S : Type 0} → Carry S → ℕ → List Happened → Type 0
-Fitting body left log = (body.noted ≡ visible log) × (body.number ≢ Some 0 → turns_over log + left ≤ STEPS + 1)
+Fitting body left log = (body.noted ≡ visible log) × (body.number ≢ Some 0 → yields log + left ≤ most_steps)
 
 lent_fits : {S : Type 0} (p q : Sight S) (a b : Carry S) (h : Happened) (left less : ℕ) → Lent p q a b h → h.entry.fiber ≡ fiber_of a → is_turn h.entry.call ≡ false → GoesOn h → less ≡ left
     → Fitting a left (log p.front (fiber_of a)) → Fitting b less (log q.front (fiber_of a))
@@ -37,7 +37,7 @@ lent_fits p q a b h left less lent mine within on same fits =
     let f = fiber_of a in
     let fiber : fiber_of b ≡ f = ap (λ (n : Option ℕ). fiber_of (record a { number = n })) lent.number in
     let grown : log q.front f ≡ log p.front f ++ h ∷ [] = (grew_made p q f h lent.made mine within).log in
-    let over : turns_over (log q.front f) ≡ turns_over (log p.front f) = ap (λ (zs : List Happened). turns_over zs) grown ∙ turns_over-goes (log p.front f) h on in (
+    let over : yields (log q.front f) ≡ yields (log p.front f) = ap (λ (zs : List Happened). yields zs) grown ∙ yields-goes (log p.front f) h on in (
       subst (λ (n : ℕ). b.noted ≡ visible (log q.front n)) fiber lent.holds.noted,
       λ other. rw (over, same) (fits.1 (λ zero_is. other (lent.number ∙ zero_is))),
     )

@@ -23,4 +23,5 @@ returns-then-is_err g c =
     let same : IsSame a b = record { birth = notes.birth; number = notes.number; noted = noted; share = notes.share } in (
       went_same (g.P.Port.sight c.args.port.now) a b (g.R.ReadyLine.told c.args.line.now) c.requires.holds same refl,
       (noted ∙ c.requires.fits.0, λ other. rw c.reserve.ensures.rest (c.requires.fits.1 (λ zero_is. other (notes.number ∙ zero_is)))),
+      refl,
     )

@@ -1,12 +1,12 @@
 use Rattle.std.proofs.Common.{◌≡◌, ◌≢◌, ℕ, ◌+◌, ◌-◌, ◌≤◌, vec_capacity, vec_len, Some, Option, List, [], ◌∷◌, refl, sym, ap, subst, ◌∙◌, arith}
-use Rattle.pic_base.specs.declared.limits.TheConstants.{STEPS}
+use Rattle.pic_base.specs.Steps.{most_steps}
 use Rattle.pic_base.specs.declared.outcome.Outcome.TheVariants.{Returned}
 use Rattle.pic_machine.specs.declared.entry.Call.TheVariants as call
 use Rattle.pic_machine.specs.declared.entry.Reply.TheVariants as reply
 use Rattle.pic_machine.specs.Happened.{Happened}
 use Rattle.pic_machine.specs.History.{event}
 use Rattle.pic_machine.specs.Log.{log, visible}
-use Rattle.pic_machine.specs.Order.{turns_over}
+use Rattle.pic_machine.specs.Order.{yields}
 use Rattle.pic_machine.specs.Sight.{Carry, Sight, fiber_of, nothing}
 use Rattle.pic_machine.specs.Lending.{Spared}
 use Rattle.pic_machine.specs.Turning.{Adds, EndsSo, YieldsSo}
@@ -26,12 +26,12 @@ seen_of body = record {
 }
 
 abbrev fits_of : Patient → List Happened → Type 0
-fits_of body log = (body.noted.items ≡ visible log) × (body.number ≢ Some 0 → turns_over log + body.left ≤ STEPS + 1)
+fits_of body log = (body.noted.items ≡ visible log) × (body.number ≢ Some 0 → yields log + body.left ≤ most_steps)
 
 -- a body whose call was refused stands where it stood
 still_fits : {S : Type 0} (p q : Sight S) (a b : Carry S) (left less : ℕ) → Spared p q a b → less + 1 ≡ left
-    → (a.noted ≡ visible (log p.front (fiber_of a))) × (a.number ≢ Some 0 → turns_over (log p.front (fiber_of a)) + left ≤ STEPS + 1)
-    → (b.noted ≡ visible (log q.front (fiber_of a))) × (b.number ≢ Some 0 → turns_over (log q.front (fiber_of a)) + (less + 1) ≤ STEPS + 1)
+    → (a.noted ≡ visible (log p.front (fiber_of a))) × (a.number ≢ Some 0 → yields (log p.front (fiber_of a)) + left ≤ most_steps)
+    → (b.noted ≡ visible (log q.front (fiber_of a))) × (b.number ≢ Some 0 → yields (log q.front (fiber_of a)) + (less + 1) ≤ most_steps)
 still_fits p q a b left less spared more fits =
     let same : log q.front (fiber_of a) ≡ log p.front (fiber_of a) = log_spared p q a b spared in (
       spared.same.noted ∙ (fits.0 ∙ ap visible (sym same)),

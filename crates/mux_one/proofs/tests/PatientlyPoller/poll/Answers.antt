@@ -16,7 +16,7 @@ seen_of body = record {
 }
 
 pub returns-then-body-eq0 : goal.returns-then-body-eq0
-returns-then-body-eq0 g c = (went_none (g.P.Port.sight c.args.port.now) (seen_of c.args.body) (g.R.ReadyLine.told c.args.line.now) c.requires.holds, c.requires.fits)
+returns-then-body-eq0 g c = (went_none (g.P.Port.sight c.args.port.now) (seen_of c.args.body) (g.R.ReadyLine.told c.args.line.now) c.requires.holds, c.requires.fits, refl)
 
 pub returns-then-is_err : goal.returns-then-is_err
 returns-then-is_err g c =
@@ -27,4 +27,5 @@ returns-then-is_err g c =
     let same : IsSame a b = record { birth = notes.birth; number = notes.number; noted = noted; share = notes.share } in (
       went_same (g.P.Port.sight c.args.port.now) a b (g.R.ReadyLine.told c.args.line.now) c.requires.holds same refl,
       (noted ∙ c.requires.fits.0, λ other. rw c.reserve.ensures.rest (c.requires.fits.1 (λ zero_is. other (notes.number ∙ zero_is)))),
+      refl,
     )

@@ -1,5 +1,5 @@
 -- A body to which nothing has happened stands at the beginning of its text.
-use Rattle.std.proofs.Common.{◌≡◌, ℕ, Option, None, List, [], sym, ap, subst, ◌∙◌, append-nil}
+use Rattle.std.proofs.Common.{◌≡◌, ℕ, Option, List, [], sym, ap, subst, ◌∙◌, append-nil}
 use Rattle.pic_machine.specs.declared.birth.Birth.{Birth}
 use Rattle.pic_machine.specs.Happened.{Happened}
 use Rattle.script_tree.specs.Tree.{Tree}
@@ -35,16 +35,16 @@ fits_new body context standing frames noted =
       stands = λ f mine. before_end (subst (Leads body f []) (sym standing) (leads f));
     }
 
-pub is_new : (body : Shown) (program : Option Tree) (birth : Birth) (block : ℕ) → body.program ≡ program → body.birth ≡ birth → body.number ≡ None
+pub is_new : (body : Shown) (program : Option Tree) (birth : Birth) (number : Option ℕ) (block : ℕ) → body.program ≡ program → body.birth ≡ birth → body.number ≡ number
     → context_at body ≡ context_of birth → body.standing ≡ At block 0 → block ≡ block_in program birth.text → body.frames ≡ [] → body.noted ≡ []
-    → IsNew body program birth
-is_new body program birth block program_is birth_is number context standing text frames noted =
+    → IsNew body program birth number
+is_new body program birth number block program_is birth_is number_is context standing text frames noted =
     let there : block ≡ block_in body.program body.birth.text =
     text ∙ (ap (λ (p : Option Tree). block_in p birth.text) (sym program_is) ∙ ap (λ (b : Birth). block_in body.program b.text) (sym birth_is)) in
     record {
       program_is = program_is;
       birth_is = birth_is;
-      number = number;
+      number_is = number_is;
       context = context;
       standing = standing ∙ ap (λ (k : ℕ). At k 0) text;
       frames = frames;

@@ -1,8 +1,8 @@
 -- Which logs a fiber may have: those that its text may leave, from its birth on.
 use Rattle.std.specs.Prelude.{◌≡◌, ◌≢◌, ℕ, List, [], ◌∷◌, ◌++◌, replicate}
-use Rattle.pic_base.specs.declared.limits.TheConstants.{STEPS}
 use Rattle.pic_base.specs.declared.outcome.Outcome.{Outcome}
 use Rattle.pic_base.specs.declared.outcome.Outcome.TheVariants.{Returned, Cancelled}
+use Rattle.pic_base.specs.Steps.{most_steps}
 use Rattle.pic_machine.specs.declared.birth.Birth.{Birth}
 use Rattle.pic_machine.specs.declared.entry.Call.TheVariants as call
 use Rattle.pic_machine.specs.declared.entry.Reply.TheVariants.{Plain}
@@ -19,7 +19,7 @@ abbrev pub context_of : Birth → Context
 context_of birth = record {
   registers = birth.value ∷ replicate 15 0;
   cells = replicate 16 0;
-  steps = STEPS;
+  steps = most_steps;
   current = birth.current;
 }
 

@@ -74,7 +74,7 @@ impl Body {
     ) -> Result<Body, Memory>
         requires { text < length (arc_value program.now).texts }
         ensures { IfOk result (λ body. IsNew body (Some (arc_value program.now))
-            (record { text = text; value = value; current = current })) }
+            (record { text = text; value = value; current = current }) None) }
     {
         let block = block_of(program, text);
         let program = Some(program.clone()?);
@@ -83,36 +83,38 @@ impl Body {
             value,
             current,
         };
-        Body::unused(alloc, program, birth, block)
+        Body::unused(alloc, program, birth, None, block)
     }
 
-    /// The body of the clock, which runs no text. It has no number yet.
+    /// The body of the clock, which runs no text. Its number is 0.
     pub fn clock(alloc: Global) -> Result<Body, Memory>
-        ensures { IfOk result (λ body. IsNew body None (record { text = 0; value = 0; current = 0 })) }
+        ensures { IfOk result (λ body. IsNew body None
+            (record { text = 0; value = 0; current = 0 }) (Some 0)) }
     {
         let birth = Birth {
             text: 0,
             value: 0,
             current: 0,
         };
-        Body::unused(alloc, None, birth, 0)
+        Body::unused(alloc, None, birth, Some(0), 0)
     }
 
     fn unused(
         alloc: Global,
         program: Option<Arc<Program>>,
         birth: Birth,
+        number: Option<FiberNo>,
         block: u32,
     ) -> Result<Body, Memory>
         requires { block ≡ block_in (option_map arc_value program) birth.text }
-        ensures { IfOk result (λ body. IsNew body (option_map arc_value program) birth) }
+        ensures { IfOk result (λ body. IsNew body (option_map arc_value program) birth number) }
     {
         let mut registers = [0; 16];
         registers[0] = birth.value;
         let content = Content {
             program,
             birth,
-            number: None,
+            number,
             registers,
             cells: [0; 16],
             steps: STEPS,

@@ -1,6 +1,6 @@
 //! Bodies of a script's fibers.
 use super::*;
-use pic_base::{Limits, Outcome, STEPS};
+use pic_base::{Limits, Outcome};
 use pic_machine::{Birth, Call, Carried, Entry, Reply};
 use script_tree::{CompRef, parse};
 use std::sync::Arc;
@@ -36,7 +36,7 @@ fn a_body_begins_at_its_texts_first_statement(rt: HostRuntime) -> Result<(), Fai
     assert_eq!(rt; body.current(), 1);
     assert_eq!(rt; body.register(0), 5);
     assert_eq!(rt; body.register(15), 0);
-    assert_eq!(rt; body.steps(), STEPS);
+    assert_eq!(rt; body.steps(), 200_000);
     assert_eq!(rt; body.cell(15), 0);
     assert_eq!(rt; body.standing(), Standing::At { block: 0, place: 0 });
     assert_eq!(rt; body.entries().len(), 0);
@@ -46,7 +46,6 @@ fn a_body_begins_at_its_texts_first_statement(rt: HostRuntime) -> Result<(), Fai
 #[test]
 fn a_body_keeps_what_it_is_told(rt: HostRuntime) -> Result<(), Fail> {
     let mut body = Body::clock(rt.alloc())?;
-    body.number(0);
     body.reserve()?;
     let entry = Entry {
         fiber: 0,

@@ -13,7 +13,7 @@ use Rattle.pic_machine.specs.History.{event}
 use Rattle.pic_machine.specs.Log.{is_turn, log, visible}
 use Rattle.pic_machine.specs.Order.{Stops, readied}
 use Rattle.pic_machine.specs.Sight.{Notes, Sight, fiber_of}
-use Rattle.pic_machine.specs.Lending.{Made, Spared}
+use Rattle.pic_machine.specs.Lending.{Calm, Faulted, Made, Spared}
 use Rattle.pic_machine.specs.Turning.{Adds, Polled, Stopped}
 use Rattle.pic_machine.proofs.Histories.{visible-append}
 use Rattle.pic_machine.proofs.Turns.{went_stopped}
@@ -26,7 +26,7 @@ use Rattle.fiber_body.specs.Shown.{IsSameRest, Shown, carry_of, context_at}
 use Rattle.fiber_body.specs.Texts.{block_in, blocks_in}
 use Rattle.fiber_body.specs.Fits.{Fits, HasLeft, Leads, Stands, behind_end, blocks_of}
 use Rattle.fiber_poll.specs.declared.spot.Spot.{Spot}
-use Rattle.fiber_poll.specs.UnderWay.{GaveUp, IsBefore, IsHandedBack, IsOn, IsUp, behind}
+use Rattle.fiber_poll.specs.UnderWay.{IsBefore, IsHandedBack, IsOn, IsUp, behind}
 use Rattle.fiber_poll.proofs.Leading.{fits_led, leads_on, leads_up, left_same, same_fiber}
 use Rattle.fiber_poll.proofs.Going.{on_spared, same_number}
 
@@ -37,13 +37,13 @@ module _ (p q : Sight (Option Tree)) (a b : Shown) (start now : Option (List ℕ
   on_fits on = subst (λ (n : ℕ). Fits b (log q.front n)) (same_number a b on.went.number) on.up.fits
 
   -- a body that is handed back
-  pub handed : (fault : PortFault) (answer : Turn Shown) → IsOn p q a b start now → GaveUp fault p q → IsHandedBack fault b answer → Polled answer carry_of Fits p q (carry_of a) start now
+  pub handed : (fault : PortFault) (answer : Turn Shown) → IsOn p q a b start now → Faulted fault p q → IsHandedBack fault b answer → Polled answer carry_of Fits p q (carry_of a) start now
   handed Full answer on why back = absurd why
   handed Again answer on why back = subst (λ (t : Turn Shown). Polled t carry_of Fits p q (carry_of a) start now) (sym back) (on.went, on_fits on, why)
-  handed Memory answer on why back = subst (λ (t : Turn Shown). Polled t carry_of Fits p q (carry_of a) start now) (sym back) (on.went, on_fits on)
+  handed Memory answer on why back = subst (λ (t : Turn Shown). Polled t carry_of Fits p q (carry_of a) start now) (sym back) (on.went, on_fits on, why)
 
-  pub handed_memory : IsOn p q a b start now → Polled (turn.Memory b) carry_of Fits p q (carry_of a) start now
-  handed_memory on = (on.went, on_fits on)
+  pub handed_memory : IsOn p q a b start now → Calm p q → Polled (turn.Memory b) carry_of Fits p q (carry_of a) start now
+  handed_memory on calm = (on.went, on_fits on, calm)
 
 -- the last entry of a turn was made
 pub stopped : (p q : Sight (Option Tree)) (a b : Shown) (before now : Option (List ℕ)) (h : Happened) (How : Happened → Type 0) → IsOn p p a b before before → Made p q h → h.entry.fiber ≡ fiber_of (carry_of b)

@@ -12,12 +12,6 @@ use Rattle.fiber_poll.specs.Moving.{HasLoop}
 module _ (blocks : List (List Stmt)) (f : ℕ) where
   -- ---- exits that pass
 
-  pub cut_passes : (frames : List Frame) (c : Context) → Around blocks f frames cut c [] cut c
-  cut_passes [] c = (refl, refl, refl)
-  cut_passes (Rest block place ∷ frames) c = cut_passes frames c
-  cut_passes (Again block ∷ frames) c = cut_passes frames c
-  cut_passes (Catch register handler ∷ frames) c = cut_passes frames c
-
   pub spent_passes : (frames : List Frame) (c : Context) → Around blocks f frames spent c [] spent c
   spent_passes [] c = (refl, refl, refl)
   spent_passes (Rest block place ∷ frames) c = spent_passes frames c

@@ -4,7 +4,6 @@ use Rattle.pic_base.specs.declared.duty.Duty.{Duty}
 use Rattle.pic_machine.specs.declared.entry.Call.{Call}
 use Rattle.pic_machine.specs.Happened.{Happened}
 use Rattle.pic_machine.specs.declared.port.PortFault.{PortFault}
-use Rattle.pic_machine.specs.declared.port.PortFault.TheVariants.{Full, Again, Memory}
 use Rattle.pic_machine.specs.State.{owed_of}
 use Rattle.pic_machine.specs.Duty.{DutiesAllow}
 use Rattle.pic_machine.specs.Step.{NamesStand}
@@ -12,7 +11,7 @@ use Rattle.pic_machine.specs.History.{world}
 use Rattle.pic_machine.specs.Log.{is_turn, log}
 use Rattle.pic_machine.specs.Order.{GoesOn, readied}
 use Rattle.pic_machine.specs.Sight.{CanMake, Carry, Holds, IsSame, Notes, Sight, fiber_of, nothing}
-use Rattle.pic_machine.specs.Lending.{Faulted, Lent, Refuses, Spared}
+use Rattle.pic_machine.specs.Lending.{Lent, Refuses, Spared}
 use Rattle.pic_machine.specs.Turning.{Adds, Went}
 use Rattle.pic_machine.proofs.Turns.{Went-trans, grew_made, grew_others, went_lent, went_none, went_spared}
 use Rattle.script_tree.specs.declared.program.Stmt.{Stmt}
@@ -25,7 +24,7 @@ use Rattle.fiber_body.specs.Fits.{Fits, Leads, blocks_of}
 use Rattle.fiber_body.specs.Laws.{fits_same}
 use Rattle.fiber_poll.specs.declared.spot.Spot.{Spot}
 use Rattle.fiber_poll.specs.Moving.{Goes, Moves, Settles, spent_step}
-use Rattle.fiber_poll.specs.UnderWay.{GaveUp, IsBefore, IsOn, IsUp}
+use Rattle.fiber_poll.specs.UnderWay.{IsBefore, IsOn, IsUp}
 use Rattle.fiber_poll.proofs.Leading.{begun_is, can_begin, leads_on, leads_out, leads_up, up_led}
 
 -- ---- calls that may be made
@@ -148,11 +147,6 @@ module _ (p q : Sight (Option Tree)) (a b : Shown) (told : Option (List ℕ)) wh
         birth = spared.same.birth;
         program = spared.same.share;
       }
-
-  pub gave_up : (fault : PortFault) → Faulted fault p q → GaveUp fault p q
-  gave_up Full faulted = faulted
-  gave_up Again faulted = faulted
-  gave_up Memory faulted = tt
 
   pub on_refused : (fault : PortFault) → IsUp p a → Refuses fault p q (carry_of a) (carry_of b) → IsSameRest a b → IsOn p q a b told told
   on_refused fault up refused rest = on_spared up refused.0 rest

@@ -1,6 +1,6 @@
 -- Where a body stands, told by where its log leads: from that all that a body keeps to is derived, and
 -- each statement carries it on.
-use Rattle.std.proofs.Common.{◌≡◌, ◌≢◌, ℕ, zero, suc, ◌+◌, ◌<◌, inl, inr, Option, Some, None, List, [], ◌∷◌, ◌++◌, slice_get, drop, refl, sym, ap, subst, ◌∙◌, append_assoc, append-nil, arith}
+use Rattle.std.proofs.Common.{◌≡◌, ◌≢◌, ℕ, zero, suc, ◌+◌, ◌<◌, inl, inr, Option, Some, None, List, [], ◌∷◌, ◌++◌, slice_get, drop, refl, sym, ap, subst, ◌∙◌, append_assoc, arith}
 use Rattle.std.proofs.lemmas.List.{drop_more, drop_all}
 use Rattle.std.proofs.lemmas.Option.{get_or_from_slice_get, slice_get_within}
 use Rattle.pic_base.specs.declared.outcome.Outcome.{Outcome}
@@ -21,15 +21,15 @@ use Rattle.fiber_body.specs.declared.standing.Frame.{Frame}
 use Rattle.fiber_body.specs.declared.standing.Standing.{Standing}
 use Rattle.fiber_body.specs.declared.standing.Standing.TheVariants.{At, Leaving}
 use Rattle.fiber_body.specs.Texts.{block_in, blocks_in}
-use Rattle.fiber_body.specs.Around.{Ahead}
-use Rattle.fiber_body.specs.Meaning.{CanBegin, Context, CostsStep, Does, Exit, Runs, begun, block_at, next, cut, waits, stepped}
+use Rattle.fiber_body.specs.Meaning.{CanBegin, Context, CostsStep, Does, Exit, Runs, begun, block_at, next, cut, stepped}
 use Rattle.fiber_body.specs.Follows.{EndsAs, FollowsText, context_of, under_way, at_end}
 use Rattle.fiber_body.specs.Shown.{Shown, carry_of, context_at}
 use Rattle.fiber_body.specs.Fits.{Fits, HasLeft, Leads, MayBeOf, Stands, before_end, behind_end, blocks_of, stmts_of_body}
 use Rattle.fiber_poll.specs.declared.spot.Spot.{Spot}
 use Rattle.fiber_poll.specs.Moving.{LeadsOut}
 use Rattle.fiber_poll.specs.UnderWay.{IsAt, IsUp}
-use Rattle.fiber_poll.proofs.Framing.{ahead_exit, ahead_next, cut_passes}
+use Rattle.fiber_poll.specs.Yields.{led_runs}
+use Rattle.fiber_poll.proofs.Framing.{ahead_exit, ahead_next}
 
 -- ---- from where the log leads
 
@@ -40,11 +40,7 @@ not_cut x d o ends same = subst (λ (y : Exit). EndsAs y d o) same ends
 pub led_follows : (body : Shown) (f : ℕ) (hs : List Happened) (script : Tree) (standing : Standing) → body.program ≡ Some script
     → Leads body f hs standing → FollowsText script f body.birth hs
 led_follows body f hs script (At block place) program leads =
-    let ahead : Ahead (blocks_of body) f body.frames block place (context_at body) [] cut (context_at body) =
-    record { front = []; back = []; exit = cut; context = context_at body; first = waits; second = cut_passes (blocks_of body) f body.frames (context_at body); is = refl } in
-    let runs : Runs (blocks_of body) f (stmts_of_body body) (context_of body.birth) hs cut (context_at body) =
-    subst (λ (zs : List Happened). Runs (blocks_of body) f (stmts_of_body body) (context_of body.birth) zs cut (context_at body)) (append-nil hs) (leads [] cut (context_at body) ahead) in
-    under_way (subst (λ (p : Option Tree). Runs (blocks_in p) f (block_at (blocks_in p) (block_in p body.birth.text)) (context_of body.birth) hs cut (context_at body)) program runs)
+    under_way (subst (λ (p : Option Tree). Runs (blocks_in p) f (block_at (blocks_in p) (block_in p body.birth.text)) (context_of body.birth) hs cut (context_at body)) program (led_runs body f hs block place leads))
 led_follows body f hs script (Leaving o) program left =
     at_end (subst (λ (p : Option Tree). Runs (blocks_in p) f (block_at (blocks_in p) (block_in p body.birth.text)) (context_of body.birth) hs left.exit left.context) program left.runs)
     (not_cut left.exit left.context o left.ends)

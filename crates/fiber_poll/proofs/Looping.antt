@@ -4,6 +4,7 @@ use Rattle.std.specs.Prelude.{IsTrue}
 use Rattle.std.proofs.lemmas.Option.{slice_get_within}
 use Rattle.pic_machine.specs.declared.port.PortFault.{PortFault}
 use Rattle.pic_machine.specs.declared.port.PortFault.TheVariants.{Full, Again, Memory}
+use Rattle.pic_machine.specs.Lending.{Calm, Faulted}
 use Rattle.pic_machine.specs.Log.{log}
 use Rattle.pic_machine.specs.Sight.{Sight, fiber_of}
 use Rattle.pic_machine.proofs.Turns.{rose_from}
@@ -24,7 +25,7 @@ use Rattle.fiber_poll.specs.Laws.{port_later}
 use Rattle.fiber_poll.specs.Built.{is_built}
 use Rattle.fiber_poll.specs.Polls.{IsPortOf}
 use Rattle.fiber_poll.specs.Ranges.{CanRun}
-use Rattle.fiber_poll.specs.UnderWay.{GaveUp, IsAt, IsBefore, IsOn, IsUp}
+use Rattle.fiber_poll.specs.UnderWay.{IsAt, IsBefore, IsOn, IsUp}
 use Rattle.fiber_poll.proofs.Breaks.{never_broke}
 use Rattle.fiber_poll.proofs.Framing.{loop_or_broke}
 use Rattle.fiber_poll.proofs.Going.{on_gone, on_trans}
@@ -33,6 +34,7 @@ use Rattle.fiber_poll.proofs.Leading.{leads_out, leads_up, past_end}
 -- a part of the turn went in one block, in which the body stands still
 pub record IsInside (old new : Sight (Option Tree)) (body later : Shown) (before now : Option (List ℕ)) (block place : ℕ) : Type 0 where
   pub on : IsOn old new body later before now
+  pub calm : Calm old new
   pub at : later.standing ≡ At block place
   pub lighter : weight later ≤ weight body
 
@@ -102,15 +104,16 @@ module _ (p q : Sight (Option Tree)) (a b : Shown) (start now : Option (List ℕ
   pub port_stays : (script : Tree) → IsPortOf script p → IsOn p q a b start now → IsPortOf script q
   port_stays script of on = port_later script p q of on.went.grew.later.origin on.went.grew.later.share
 
-  pub gave_up_after : (r : Sight (Option Tree)) (fault : PortFault) → IsOn p q a b start now → GaveUp fault q r → GaveUp fault p r
-  gave_up_after r Full on why = why
-  gave_up_after r Again on why = rose_from p.contention q.contention r.contention on.went.grew.later.steady why
-  gave_up_after r Memory on why = tt
+  pub gave_up_after : (r : Sight (Option Tree)) (fault : PortFault) → IsOn p q a b start now → Calm p q → Faulted fault q r → Faulted fault p r
+  gave_up_after r Full on calm why = why
+  gave_up_after r Again on calm why = rose_from p.contention q.contention r.contention on.went.grew.later.steady why
+  gave_up_after r Memory on calm why = why ∙ calm
 
   -- the block's changes were made
   pub inside_gone : (d : Shown) (block place later : ℕ) → IsInside p q a b start now block place → Goes b d → d.standing ≡ At block later → IsInside p q a d start now block later
   inside_gone d block place later inside goes at = record {
     on = on_trans p q q a b d start now now inside.on (on_gone q b d now inside.on.up goes);
+    calm = inside.calm;
     at = at;
     lighter = omega (arith, goes.lighter, inside.lighter);
   }

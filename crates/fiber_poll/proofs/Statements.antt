@@ -1,5 +1,5 @@
 -- What each statement did, from what its call of the port did.
-use Rattle.std.proofs.Common.{◌≡◌, ℕ, ◌<◌, Option, Some, List, [], ◌∷◌, slice_set, refl, sym, ap, subst, ◌∙◌, length}
+use Rattle.std.proofs.Common.{◌≡◌, ℕ, ◌<◌, Option, Some, None, List, [], ◌∷◌, slice_set, refl, sym, ap, subst, ◌∙◌, length}
 use Rattle.pic_base.specs.declared.outcome.Outcome.{Outcome}
 use Rattle.pic_base.specs.declared.outcome.Outcome.TheVariants.{Returned, Cancelled}
 use Rattle.pic_machine.specs.declared.birth.Birth.{Birth}
@@ -111,13 +111,13 @@ module _ (p q : Sight (Option Tree)) (a b : Shown) (spot : Spot) where
 -- ---- the call that makes a fiber
 
 pub is_child : (script : Tree) (port : Sight (Option Tree)) (body child : Shown) (text value current : ℕ) → IsPortOf script port → IsUp port body → current ≡ body.birth.current
-    → IsNew child (Some script) (record { text = text; value = value; current = current }) → IsChild port (carry_of child) text value
+    → IsNew child (Some script) (record { text = text; value = value; current = current }) None → IsChild port (carry_of child) text value
 is_child script port body child text value current of up is new =
     let f = fiber_of (carry_of body) in
     let stands = current_stands port.origin f body.birth port.front up.holds.legal of.main (up.holds.birth up.fiber) in
     let same : child.birth.current ≡ body.birth.current = ap (λ (b : Birth). b.current) new.birth_is ∙ is in
     record {
-      unnumbered = new.number;
+      unnumbered = new.number_is;
       owes = refl;
       same_text = ap (λ (b : Birth). b.text) new.birth_is;
       same_value = ap (λ (b : Birth). b.value) new.birth_is;
@@ -127,7 +127,7 @@ is_child script port body child text value current of up is new =
 
 module _ (p q : Sight (Option Tree)) (a b : Shown) (spot : Spot) (text : ℕ) (v : Operand) (value : ℕ) where
   pub was_forked : (child : Shown) (current number : ℕ) (script : Tree) (before now : Option (List ℕ)) → IsUp p a → IsBefore a spot (stmt.Spawn text v) → value ≡ value_of (context_at a) v → current ≡ a.birth.current
-      → IsNew child (Some script) (record { text = text; value = value; current = current }) → IsSameRest a b
+      → IsNew child (Some script) (record { text = text; value = value; current = current }) None → IsSameRest a b
       → Lent p q (carry_of a) (carry_of b) (forked (fiber_of (carry_of a)) number (carry_of child).birth) → Adds before now (number ∷ []) → IsOn p q a (behind b spot) before now
   was_forked child current number script before now up stands is same_current new rest lent line =
       let f = fiber_of (carry_of a) in

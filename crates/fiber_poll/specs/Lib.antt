@@ -1,7 +1,7 @@
 pub mod Built
 pub mod Polls
 pub mod Laws
-pub mod Few
+pub mod Yields
 pub mod Ranges
 pub mod Moving
 pub mod Changing

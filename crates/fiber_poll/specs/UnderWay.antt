@@ -1,5 +1,5 @@
 -- What stands while a turn of a script's fiber is under way. Only private contracts cite these words.
-use Rattle.std.specs.Prelude.{◌≡◌, ◌≢◌, ℕ, ◌+◌, ◌-◌, ◌<◌, ◌^◌, Bool, true, false, Option, Some, None, List, [], ◌∷◌, slice_get, ⊤}
+use Rattle.std.specs.Prelude.{◌≡◌, ◌≢◌, ℕ, ◌+◌, ◌-◌, ◌<◌, ◌^◌, Bool, true, false, Option, Some, None, List, [], ◌∷◌, slice_get}
 use Rattle.pic_base.specs.declared.outcome.Outcome.{Outcome}
 use Rattle.pic_machine.specs.declared.entry.Call.TheVariants as call
 use Rattle.pic_machine.specs.declared.entry.CompleteReply.{CompleteReply}
@@ -10,7 +10,6 @@ use Rattle.pic_machine.specs.declared.poller.Turn.TheVariants as turn
 use Rattle.pic_machine.specs.declared.port.PortFault.{PortFault}
 use Rattle.pic_machine.specs.declared.port.PortFault.TheVariants.{Full, Again, Memory}
 use Rattle.pic_machine.specs.History.{event}
-use Rattle.pic_machine.specs.Lending.{Rose}
 use Rattle.pic_machine.specs.Log.{log}
 use Rattle.pic_machine.specs.Sight.{Holds, Sight, fiber_of}
 use Rattle.pic_machine.specs.Turning.{Went}
@@ -98,12 +97,6 @@ makes_entry (stmt.Peek r q c) = true
 makes_entry (stmt.Spawn text v) = true
 makes_entry stmt.Yield = true
 makes_entry _ = false
-
--- why a turn is broken off: another port was in the way, or memory was wanted
-abbrev pub GaveUp : PortFault → Sight (Option Tree) → Sight (Option Tree) → Type 0
-GaveUp Full old new = ⊥
-GaveUp Again old new = Rose old.contention new.contention
-GaveUp Memory old new = ⊤
 
 -- the body is handed back, and why
 abbrev pub IsHandedBack : PortFault → Shown → Turn Shown → Type 0

@@ -1,8 +1,8 @@
 ghost use Rattle.std.specs.Prelude.{◌≡◌};
 ghost use Rattle.std.specs.Arc.{arc_value};
-ghost use Rattle.fiber_poll.specs.Few.{few_turns};
 ghost use Rattle.fiber_poll.specs.Laws.{port_later};
 ghost use Rattle.fiber_poll.specs.Polls.{IsPortOf};
+ghost use Rattle.fiber_poll.specs.Yields.{few_yields};
 
 use crate::last::{end_turn, handed_back, yield_turn};
 use crate::spot::Last;
@@ -43,5 +43,5 @@ impl<P: Port<Body = Body>> Poller<P> for ScriptPoller {
 
     ghost polls_later = { λ poller old new polls origin share. port_later (arc_value poller.program) old new polls origin share };
 
-    ghost few = { λ poller body log number fits. few_turns body log number fits };
+    ghost few = { λ poller body log number fits. few_yields body log number fits };
 }

@@ -1,13 +1,14 @@
 //! One statement that costs a step and ends no turn.
 ghost use Rattle.std.specs.Prelude.{◌≡◌, ◌≢◌, ◌<◌, ℕ, cond, false, true, Option, Some, IfErr, OnErr, OnOk};
 ghost use Rattle.std.specs.Arc.{arc_value};
+ghost use Rattle.pic_machine.specs.Lending.{Calm, Faulted};
 ghost use Rattle.script_tree.specs.Tree.{Tree};
 ghost use Rattle.script_tree.specs.WellFormed.{IsWellFormed};
 ghost use Rattle.fiber_poll.specs.Changing.{HasNoChange};
 ghost use Rattle.fiber_poll.specs.Moving.{HasLoop, Moves, weight};
 ghost use Rattle.fiber_poll.specs.Polls.{IsPortOf};
 ghost use Rattle.fiber_poll.specs.Ranges.{CanRun};
-ghost use Rattle.fiber_poll.specs.UnderWay.{GaveUp, IsBefore, IsOn, IsUp, makes_entry};
+ghost use Rattle.fiber_poll.specs.UnderWay.{IsBefore, IsOn, IsUp, makes_entry};
 
 use crate::blocks::{enter, enter_try};
 use crate::poller::ScriptPoller;
@@ -42,7 +43,8 @@ pub(crate) fn run_stmt<P: Port<Body = Body>, R: ReadyLine>(
     requires formed { IsWellFormed (arc_value poller.now.program) }
     ensures on { IsOn (P.sight port.old) (P.sight port.new) body.old body.new (R.told line.old) (R.told line.new) }
     ensures lighter { OnOk result (weight body.new < weight body.old) }
-    ensures gave_up { IfErr result (λ fault. GaveUp fault (P.sight port.old) (P.sight port.new)) }
+    ensures calm { OnOk result (Calm (P.sight port.old) (P.sight port.new)) }
+    ensures gave_up { IfErr result (λ fault. Faulted fault (P.sight port.old) (P.sight port.new)) }
 {
     if !makes_entry(stmt) {
         return match run_quietly(body, spot, stmt) {
@@ -85,7 +87,8 @@ fn run_call<P: Port<Body = Body>, R: ReadyLine>(
     requires can { CanRun (arc_value poller.now.program) stmt.now }
     ensures on { IsOn (P.sight port.old) (P.sight port.new) body.old body.new (R.told line.old) (R.told line.new) }
     ensures lighter { OnOk result (weight body.new < weight body.old) }
-    ensures gave_up { IfErr result (λ fault. GaveUp fault (P.sight port.old) (P.sight port.new)) }
+    ensures calm { OnOk result (Calm (P.sight port.old) (P.sight port.new)) }
+    ensures gave_up { IfErr result (λ fault. Faulted fault (P.sight port.old) (P.sight port.new)) }
 {
     match stmt {
         Stmt::Say(operand) => say(port, body, spot, *operand),

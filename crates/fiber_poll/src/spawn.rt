@@ -1,10 +1,11 @@
 //! The statement that makes a fiber.
 ghost use Rattle.std.specs.Prelude.{◌<◌, IfErr, OnOk};
 ghost use Rattle.std.specs.Arc.{arc_value};
+ghost use Rattle.pic_machine.specs.Lending.{Calm, Faulted};
 ghost use Rattle.script_tree.specs.WellFormed.{IsFiberText, IsValue};
 ghost use Rattle.fiber_poll.specs.Moving.{weight};
 ghost use Rattle.fiber_poll.specs.Polls.{IsPortOf};
-ghost use Rattle.fiber_poll.specs.UnderWay.{GaveUp, IsBefore, IsOn, IsUp};
+ghost use Rattle.fiber_poll.specs.UnderWay.{IsBefore, IsOn, IsUp};
 
 use crate::poller::ScriptPoller;
 use crate::spot::Spot;
@@ -38,7 +39,8 @@ pub(crate) fn spawn<P: Port<Body = Body>, R: ReadyLine>(
     requires value { IsValue operand }
     ensures on { IsOn (P.sight port.old) (P.sight port.new) body.old body.new (R.told line.old) (R.told line.new) }
     ensures lighter { OnOk result (weight body.new < weight body.old) }
-    ensures gave_up { IfErr result (λ fault. GaveUp fault (P.sight port.old) (P.sight port.new)) }
+    ensures calm { OnOk result (Calm (P.sight port.old) (P.sight port.new)) }
+    ensures gave_up { IfErr result (λ fault. Faulted fault (P.sight port.old) (P.sight port.new)) }
 {
     let value = value_of(body, operand);
     let Ok(child) = Body::new(poller.alloc, &poller.program, text, value, body.current()) else {

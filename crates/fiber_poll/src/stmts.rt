@@ -1,10 +1,11 @@
 //! Statements that make an entry, each by one call of the port, for which there is room.
 ghost use Rattle.std.specs.Prelude.{◌≡◌, ◌≢◌, ℕ, ◌<◌, ◌+◌, ◌^◌, length, List, Option, Some, IfErr, OnOk};
+ghost use Rattle.pic_machine.specs.Lending.{Calm, Faulted};
 ghost use Rattle.pic_machine.specs.Sight.{Sight};
 ghost use Rattle.script_tree.specs.Tree.{Tree};
 ghost use Rattle.script_tree.specs.WellFormed.{IsValue};
 ghost use Rattle.fiber_poll.specs.Moving.{weight};
-ghost use Rattle.fiber_poll.specs.UnderWay.{GaveUp, IsBefore, IsBeforeComplete, IsBeforePeek, IsOn, IsUp, behind};
+ghost use Rattle.fiber_poll.specs.UnderWay.{IsBefore, IsBeforeComplete, IsBeforePeek, IsOn, IsUp, behind};
 
 use crate::spot::Spot;
 use crate::values::{outcome_number, state_number, value_of, won};
@@ -39,7 +40,8 @@ pub(crate) fn say<P: Port<Body = Body>>(
     requires value { IsValue operand }
     ensures on { (told : Option (List ℕ)) → IsOn (P.sight port.old) (P.sight port.new) body.old body.new told told }
     ensures lighter { OnOk result (weight body.new < weight body.old) }
-    ensures gave_up { IfErr result (λ fault. GaveUp fault (P.sight port.old) (P.sight port.new)) }
+    ensures calm { OnOk result (Calm (P.sight port.old) (P.sight port.new)) }
+    ensures gave_up { IfErr result (λ fault. Faulted fault (P.sight port.old) (P.sight port.new)) }
 {
     let value = value_of(body, operand);
     port.say(body, value)?;
@@ -63,7 +65,8 @@ pub(crate) fn complete<P: Port<Body = Body>>(
     requires stands { comp < length (P.sight port.old).origin.world.comps }
     ensures on { (told : Option (List ℕ)) → IsOn (P.sight port.old) (P.sight port.new) body.old body.new told told }
     ensures lighter { OnOk result (weight body.new < weight body.old) }
-    ensures gave_up { IfErr result (λ fault. GaveUp fault (P.sight port.old) (P.sight port.new)) }
+    ensures calm { OnOk result (Calm (P.sight port.old) (P.sight port.new)) }
+    ensures gave_up { IfErr result (λ fault. Faulted fault (P.sight port.old) (P.sight port.new)) }
 {
     let reply = port.complete(body, comp, outcome)?;
     body.set_register(register, won(reply));
@@ -87,7 +90,8 @@ pub(crate) fn peek<P: Port<Body = Body>>(
     requires stands { comp < length (P.sight port.old).origin.world.comps }
     ensures on { (told : Option (List ℕ)) → IsOn (P.sight port.old) (P.sight port.new) body.old body.new told told }
     ensures lighter { OnOk result (weight body.new < weight body.old) }
-    ensures gave_up { IfErr result (λ fault. GaveUp fault (P.sight port.old) (P.sight port.new)) }
+    ensures calm { OnOk result (Calm (P.sight port.old) (P.sight port.new)) }
+    ensures gave_up { IfErr result (λ fault. Faulted fault (P.sight port.old) (P.sight port.new)) }
 {
     let seen = port.peek(body, comp)?;
     body.set_register(registers.0, state_number(seen));

@@ -1,6 +1,7 @@
 //! The part of a turn before its last call: statements, one by one.
-ghost use Rattle.std.specs.Prelude.{◌≡◌, ◌≤◌, ◌<◌, ℕ, IsTrue, None, Some, IfErr, IfOk, length, slice_get};
+ghost use Rattle.std.specs.Prelude.{◌≡◌, ◌≤◌, ◌<◌, ℕ, IsTrue, None, Some, IfErr, IfOk, OnOk, length, slice_get};
 ghost use Rattle.std.specs.Arc.{arc_value};
+ghost use Rattle.pic_machine.specs.Lending.{Calm, Faulted};
 ghost use Rattle.script_tree.specs.Tree.{Tree};
 ghost use Rattle.script_tree.specs.WellFormed.{IsWellFormed};
 ghost use Rattle.fiber_body.specs.Fits.{blocks_of};
@@ -10,7 +11,7 @@ ghost use Rattle.fiber_poll.specs.Changing.{HasNoChange};
 ghost use Rattle.fiber_poll.specs.Moving.{Goes, weight};
 ghost use Rattle.fiber_poll.specs.Polls.{IsPortOf};
 ghost use Rattle.fiber_poll.specs.Ranges.{CanRun};
-ghost use Rattle.fiber_poll.specs.UnderWay.{GaveUp, IsAt, IsLast, IsOn, IsStep, IsUp};
+ghost use Rattle.fiber_poll.specs.UnderWay.{IsAt, IsLast, IsOn, IsStep, IsUp};
 
 use crate::blocks::enter_loop;
 use crate::changes::change;
@@ -34,7 +35,8 @@ pub(crate) fn run_on<P: Port<Body = Body>, R: ReadyLine>(
     requires up { IsUp (P.sight port.old) body.old }
     ensures on { IsOn (P.sight port.old) (P.sight port.new) body.old body.new (R.told line.old) (R.told line.new) }
     ensures last { IfOk result (λ last. IsLast body.new last) }
-    ensures gave_up { IfErr result (λ fault. GaveUp fault (P.sight port.old) (P.sight port.new)) }
+    ensures calm { OnOk result (Calm (P.sight port.old) (P.sight port.new)) }
+    ensures gave_up { IfErr result (λ fault. Faulted fault (P.sight port.old) (P.sight port.new)) }
 {
     loop {
         match body.standing() {
@@ -63,7 +65,8 @@ fn run_block<P: Port<Body = Body>, R: ReadyLine>(
     requires at { body.old.standing ≡ Standing.At block place }
     ensures on { IsOn (P.sight port.old) (P.sight port.new) body.old body.new (R.told line.old) (R.told line.new) }
     ensures step { IfOk result (λ last. IsStep body.old body.new last) }
-    ensures gave_up { IfErr result (λ fault. GaveUp fault (P.sight port.old) (P.sight port.new)) }
+    ensures calm { OnOk result (Calm (P.sight port.old) (P.sight port.new)) }
+    ensures gave_up { IfErr result (λ fault. Faulted fault (P.sight port.old) (P.sight port.new)) }
 {
     let stmts = stmts_of(&poller.program, block);
     let mut place = place;
@@ -161,7 +164,8 @@ fn begin<P: Port<Body = Body>, R: ReadyLine>(
     requires formed { IsWellFormed (arc_value poller.now.program) }
     ensures on { IsOn (P.sight port.old) (P.sight port.new) body.old body.new (R.told line.old) (R.told line.new) }
     ensures step { IfOk result (λ last. IsStep body.old body.new last) }
-    ensures gave_up { IfErr result (λ fault. GaveUp fault (P.sight port.old) (P.sight port.new)) }
+    ensures calm { OnOk result (Calm (P.sight port.old) (P.sight port.new)) }
+    ensures gave_up { IfErr result (λ fault. Faulted fault (P.sight port.old) (P.sight port.new)) }
 {
     if let Stmt::Loop(block) = stmt {
         return match enter_loop(body, spot, *block) {

@@ -2,7 +2,7 @@
 use Rattle.std.proofs.Common.{◌≡◌, ℕ, suc, ◌+◌, ◌-◌, ◌<◌, ◌≤◌, Bool, List, [], ◌∷◌, ◌++◌, length, drop, get_or, codes, sym, ap, ◌∙◌, arith, append-nil}
 use Rattle.std.proofs.lemmas.List.{drop_more, drop_all}
 use Rattle.pic_machine.specs.declared.entry.Entry.{Entry}
-use Rattle.pic_machine.specs.Completing.{comp_state, completion}
+use Rattle.pic_machine.specs.Completing.{completion, outcome_by}
 use Rattle.script_tree.specs.Tree.{Tree}
 use Rattle.pic_report.specs.declared.view.FiberView.{FiberView}
 use Rattle.pic_report.specs.declared.view.RunView.{RunView}
@@ -36,7 +36,7 @@ viewed_parts names with_log f view =
 
 -- the computation with number c, and then those behind it
 pub told_from : (names : List (List ℕ)) (es : List Entry) (c count : ℕ) → c < count
-    → joined (told_lines names es c (count - c)) ≡ comp_line names c (completion es c) (comp_state (completion es c)) ++ joined (told_lines names es (c + 1) (count - (c + 1)))
+    → joined (told_lines names es c (count - c)) ≡ comp_line names c (completion es c) (outcome_by (completion es c)) ++ joined (told_lines names es (c + 1) (count - (c + 1)))
 told_from names es c count within =
     let more : count - c ≡ suc (count - (c + 1)) = omega arith in
     ap (λ (n : ℕ). joined (told_lines names es c n)) more

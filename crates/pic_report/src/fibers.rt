@@ -1,10 +1,10 @@
 //! The lines of fibers.
-ghost use Rattle.std.specs.Prelude.{map};
 ghost use Rattle.pic_report.specs.Output.{Puts};
-ghost use Rattle.pic_report.specs.Report.{fiber_line, joined, log_line, log_lines, said_lines, says_of, text_names};
+ghost use Rattle.pic_report.specs.Report.{fiber_line, joined, log_lines, said_lines, says_of, text_names};
 ghost use Rattle.pic_report.specs.View.{viewed_lines, views_lines};
 
-use crate::entry_texts::{EntryText, text_name};
+use crate::entry_lines::{Place, put_entries};
+use crate::entry_texts::text_name;
 use crate::output::put_line;
 use crate::refusal::ReportRefusal;
 use crate::view::FiberView;
@@ -108,38 +108,8 @@ fn put_log<K: Sink>(
         (joined (log_lines (text_names program.now) log entries.now)) result }
 {
     if log {
-        put_entries(program, entries, buffer, out)
+        put_entries(program, entries, Place::Log, buffer, out)
     } else {
         Ok(())
     }
-}
-
-/// Writes a line for each entry, in order.
-fn put_entries<K: Sink>(
-    program: &Program,
-    entries: &[Entry],
-    buffer: &mut String,
-    out: &mut K,
-) -> Result<(), ReportRefusal>
-    ensures { Puts (K.taken out.old) (K.taken out.new) (K.fault_count out.old) (K.fault_count out.new)
-        (joined (map (log_line (text_names program.now)) entries.now)) result }
-{
-    for entry in entries {
-        put_log_line(program, *entry, buffer, out)?;
-    }
-    Ok(())
-}
-
-/// Writes the line of an entry.
-fn put_log_line<K: Sink>(
-    program: &Program,
-    entry: Entry,
-    buffer: &mut String,
-    out: &mut K,
-) -> Result<(), ReportRefusal>
-    ensures { Puts (K.taken out.old) (K.taken out.new) (K.fault_count out.old) (K.fault_count out.new)
-        (log_line (text_names program.now) entry) result }
-{
-    let text = EntryText { program, entry };
-    put_line(format_args!("  log {text}\n"), buffer, out)
 }

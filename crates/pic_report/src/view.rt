@@ -1,11 +1,11 @@
 //! What of a run a report is made from.
-ghost use Rattle.std.specs.Prelude.{◌≡◌, ◌+◌, Bool, List, ℕ, length, slice_get, IfOk};
+ghost use Rattle.std.specs.Prelude.{◌≡◌, Bool, List, Option, IfOk};
 ghost use Rattle.pic_machine.specs.Happened.{Happened};
-ghost use Rattle.pic_machine.specs.declared.world.Start.{Start};
+ghost use Rattle.pic_machine.specs.History.{Origin};
 ghost use Rattle.script_tree.specs.Tree.{Tree};
 ghost use Rattle.pic_report.specs.Lines.{ended_in, fate};
 ghost use Rattle.pic_report.specs.Report.{report};
-ghost use Rattle.pic_report.specs.View.{IsLeftOf, IsTraceOf, IsViewOf, main_state, view_text};
+ghost use Rattle.pic_report.specs.View.{BeginsRunning, IsLeftOf, IsTraceOf, IsViewOf, main_state, view_text};
 ghost use Rattle.pic_report.specs.Taken.{IsTakenFrom, AreTakenFrom};
 
 use fiber_body::Body;
@@ -53,14 +53,16 @@ pub fn view_of(
     trace: Option<Vec<Entry>>,
     log: bool,
 ) -> Result<RunView, Memory>
-    ensures view { IfOk result (λ view. (start : Start) (history : List Happened) (traced : Bool)
-        → IsLeftOf start history closed → IsTraceOf history traced trace
-        → IsViewOf start history traced log view) }
+    ensures view { IfOk result (λ view. (origin : Origin) (share : Option Tree)
+        (history : List Happened) (traced : Bool)
+        → IsLeftOf origin share history closed → IsTraceOf history traced trace
+        → IsViewOf origin history traced log view) }
     // So the view's text is the history's report.
-    ensures text { IfOk result (λ view. (script : Tree) (start : Start) (history : List Happened) (traced : Bool)
-        → start.comps ≡ length script.decls + 1
-        → IsLeftOf start history closed → IsTraceOf history traced trace
-        → view_text script view ≡ report script start history traced log) }
+    ensures text { IfOk result (λ view. (script : Tree) (origin : Origin) (share : Option Tree)
+        (history : List Happened) (traced : Bool)
+        → BeginsRunning script origin
+        → IsLeftOf origin share history closed → IsTraceOf history traced trace
+        → view_text script view ≡ report script origin history traced log) }
 {
     let Closed { bodies, clock, now } = closed;
     Ok(RunView {

@@ -4,10 +4,10 @@ ghost use Rattle.pic_report.specs.Report.{clock_line, joined, run_line, text_nam
 ghost use Rattle.pic_report.specs.View.{traced_lines, view_text};
 
 use crate::comps::put_comps;
+use crate::entry_lines::{Place, put_entries};
 use crate::fibers::put_fibers;
 use crate::output::{put_all, put_line};
 use crate::refusal::ReportRefusal;
-use crate::trace::put_trace;
 use crate::view::RunView;
 use pic_base::Outcome;
 use pic_io::Sink;
@@ -46,7 +46,7 @@ fn put_traced<K: Sink>(
         (joined (traced_lines (text_names program.now) trace.now)) result }
 {
     match trace {
-        Some(entries) => put_trace(program, entries.as_slice(), buffer, out),
+        Some(entries) => put_entries(program, entries.as_slice(), Place::Trace, buffer, out),
         None => Ok(()),
     }
 }

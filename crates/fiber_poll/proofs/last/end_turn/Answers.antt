@@ -6,14 +6,14 @@ use Rattle.pic_machine.specs.Sight.{fiber_of}
 use Rattle.pic_machine.specs.Turning.{EndsSo}
 use Rattle.pic_machine.proofs.Turns.{Adds-nil}
 use Rattle.fiber_body.specs.Shown.{carry_of}
-use Rattle.fiber_poll.proofs.Going.{gave_up, on_refused, on_reserved, on_trans}
+use Rattle.fiber_poll.proofs.Going.{on_refused, on_reserved, on_trans}
 use Rattle.fiber_poll.proofs.Ending.{fits_ended, handed, handed_memory, stopped}
 use Rattle.fiber_poll.proofs.last.end_turn.Goals as goal
 
 pub returns-then-is_err : goal.returns-then-is_err
 returns-then-is_err g c =
     λ told. let port = g.P.Port.sight c.args.port.now in
-    handed_memory port port c.args.body c.reserve.new.self told told (on_reserved port c.args.body c.reserve.new.self told c.requires.up c.reserve.ensures.notes c.reserve.ensures.rest)
+    handed_memory port port c.args.body c.reserve.new.self told told (on_reserved port c.args.body c.reserve.new.self told c.requires.up c.reserve.ensures.notes c.reserve.ensures.rest) refl
 
 pub end-requires-clause-after : goal.end-requires-clause-after
 end-requires-clause-after g c =
@@ -39,4 +39,4 @@ returns-in-Err g c =
     handed port later c.args.body c.in-Err.body told told c.in-Err.fault c.handed_back.result
     (on_trans port port later c.args.body c.reserve.new.self c.in-Err.body told told told reserved
     (on_refused port later c.reserve.new.self c.in-Err.body told c.in-Err.fault reserved.up c.in-Err.ensures.none.0 c.in-Err.ensures.none.1))
-    (gave_up port later c.reserve.new.self c.in-Err.body told c.in-Err.fault c.in-Err.ensures.none.0.1) c.handed_back.ensures
+    c.in-Err.ensures.none.0.1 c.handed_back.ensures

@@ -12,7 +12,7 @@ use Rattle.fiber_body.specs.Fits.{Fits}
 use Rattle.fiber_body.specs.Shown.{IsSameRest, Shown, carry_of}
 use Rattle.fiber_body.specs.declared.standing.Standing.TheVariants.{At}
 use Rattle.fiber_poll.specs.UnderWay.{IsOn, behind}
-use Rattle.fiber_poll.proofs.Going.{before_reserved, gave_up, on_reserved, on_trans}
+use Rattle.fiber_poll.proofs.Going.{before_reserved, on_reserved, on_trans}
 use Rattle.fiber_poll.proofs.Ending.{fits_yielded, handed, handed_memory, set_back, stopped}
 use Rattle.fiber_poll.proofs.last.yield_turn.Goals as goal
 
@@ -20,7 +20,7 @@ pub returns-then-is_err : goal.returns-then-is_err
 returns-then-is_err g c =
     let port = g.P.Port.sight c.args.port.now in
     let told = g.R.ReadyLine.told c.args.line.now in
-    handed_memory port port c.args.body c.reserve.new.self told told (on_reserved port c.args.body c.reserve.new.self told c.requires.up c.reserve.ensures.notes c.reserve.ensures.rest)
+    handed_memory port port c.args.body c.reserve.new.self told told (on_reserved port c.args.body c.reserve.new.self told c.requires.up c.reserve.ensures.notes c.reserve.ensures.rest) refl
 
 pub lay-requires-clause-after : goal.lay-requires-clause-after
 lay-requires-clause-after g c =
@@ -63,4 +63,4 @@ returns-in-Err g c =
     let on = subst (λ (d : Shown). IsOn port later ready d told told) (sym set) (set_back port later ready back c.args.spot told reserved.up before spared rest) in
     handed port later c.args.body c.set_standing.new.self told told c.in-Err.fault c.handed_back.result
     (on_trans port port later c.args.body ready c.set_standing.new.self told told told reserved on)
-    (gave_up port later ready back told c.in-Err.fault c.in-Err.ensures.none.0.1) c.handed_back.ensures
+    c.in-Err.ensures.none.0.1 c.handed_back.ensures

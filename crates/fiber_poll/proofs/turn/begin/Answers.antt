@@ -1,4 +1,4 @@
-use Rattle.std.proofs.Common.{sym, subst, arith, ◌∙◌}
+use Rattle.std.proofs.Common.{refl, sym, subst, arith, ◌∙◌}
 use Rattle.fiber_body.specs.Shown.{Shown}
 use Rattle.fiber_poll.specs.Moving.{Moves}
 use Rattle.fiber_poll.specs.UnderWay.{IsAt, IsOn}
@@ -23,6 +23,7 @@ returns-then-steps-eq0 g c =
     record {
       on = on_moved (g.P.Port.sight c.args.port.now) body c.leave_spent.new.body (g.R.ReadyLine.told c.args.line.now) c.requires.up moves;
       step = moves.lighter;
+      calm = refl;
       gave_up = tt;
     }
 
@@ -34,5 +35,6 @@ returns-in-Yield g c = record {
     costs = tt;
     steps = omega (arith, c.if-steps-eq0.false, c.steps.ensures);
   };
+  calm = refl;
   gave_up = tt;
 }

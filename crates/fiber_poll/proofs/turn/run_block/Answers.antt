@@ -1,4 +1,4 @@
-use Rattle.std.proofs.Common.{◌≡◌, ◌<◌, Some, refl, subst, slice_get, length, arith}
+use Rattle.std.proofs.Common.{◌≡◌, ◌<◌, Some, refl, subst, ◌∙◌, slice_get, length, arith}
 use Rattle.std.specs.Arc.{arc_value}
 use Rattle.std.proofs.lemmas.Option.{slice_get_past, slice_get_read}
 use Rattle.fiber_poll.specs.Moving.{weight}
@@ -10,6 +10,7 @@ use Rattle.fiber_poll.proofs.turn.run_block.Goals as goal
 pub loop-place-init : goal.loop-place-init
 loop-place-init g c = record {
   on = on_none (g.P.Port.sight c.args.port.now) c.args.body.now (g.R.ReadyLine.told c.args.line.now) c.requires.up;
+  calm = refl;
   at = c.requires.at;
   lighter = omega arith;
 }
@@ -77,6 +78,7 @@ loop-place-preserved g c =
     record {
       on = on_trans (g.P.Port.sight c.args.port.now) (g.P.Port.sight c.loop-place.port) (g.P.Port.sight c.begin.new.port) c.args.body.now c.run_changes-place.new.body c.begin.new.body
           (g.R.ReadyLine.told c.args.line.now) (g.R.ReadyLine.told c.loop-place.line) (g.R.ReadyLine.told c.begin.new.line) inside.on c.begin.ensures.on;
+      calm = c.in_ok-last.ensures.calm ∙ inside.calm;
       at = c.place_in.ensures c.in-Some-place_in.next c.in-Some-place_in.is;
       lighter = omega (arith, less, inside.lighter);
     }

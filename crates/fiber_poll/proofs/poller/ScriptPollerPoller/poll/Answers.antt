@@ -7,10 +7,10 @@ pub returns-in-Ok-Yield : goal.returns-in-Ok-Yield
 returns-in-Ok-Yield g c =
     polled_after carry_of Fits (g.P.Port.sight c.args.port.now) (g.P.Port.sight c.run_on.new.port) (g.P.Port.sight c.yield_turn.new.port) (carry_of c.args.body)
     (g.R.ReadyLine.told c.args.line.now) (g.R.ReadyLine.told c.run_on.new.line) (g.R.ReadyLine.told c.yield_turn.new.line) c.yield_turn.result (carry_of c.run_on.new.body)
-    c.run_on.ensures.on.went c.yield_turn.ensures
+    c.run_on.ensures.on.went c.in-Ok-Yield.ensures.calm c.yield_turn.ensures
 
 pub returns-in-Ok-End : goal.returns-in-Ok-End
 returns-in-Ok-End g c =
     polled_after carry_of Fits (g.P.Port.sight c.args.port.now) (g.P.Port.sight c.run_on.new.port) (g.P.Port.sight c.end_turn.new.port) (carry_of c.args.body)
     (g.R.ReadyLine.told c.args.line.now) (g.R.ReadyLine.told c.run_on.new.line) (g.R.ReadyLine.told c.run_on.new.line) c.end_turn.result (carry_of c.run_on.new.body)
-    c.run_on.ensures.on.went (c.end_turn.ensures (g.R.ReadyLine.told c.run_on.new.line))
+    c.run_on.ensures.on.went c.in-Ok-End.ensures.calm (c.end_turn.ensures (g.R.ReadyLine.told c.run_on.new.line))

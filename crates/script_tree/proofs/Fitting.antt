@@ -58,7 +58,6 @@ abbrev ClassFits : List ℕ → Class → Type 0
 ClassFits word (class_is.Number n) = n < 2 ^ 32
 ClassFits word (class_is.Register r) = r < 16
 ClassFits word (class_is.Promise p) = p < 8
-ClassFits word class_is.Name = is_name word ≡ true
 ClassFits word _ = Unit {0}
 
 number_fits : (word : List ℕ) (n : ℕ) (b : Bool) → nat_lt n (2 ^ 32) ≡ b → ClassFits word (cond b (class_is.Number n) class_is.LargeNumber)
@@ -77,10 +76,6 @@ either_fits : (word : List ℕ) (b : Bool) (c d : Class) → ClassFits word c �
 either_fits word true c d x y = x
 either_fits word false c d x y = y
 
-name_fits : (word : List ℕ) (b : Bool) → is_name word ≡ b → ClassFits word (cond b class_is.Name class_is.Other)
-name_fits word true e = e
-name_fits word false e = tt
-
 lettered_fits : (word : List ℕ) (of : ℕ → Class) (digits : List ℕ) → ClassFits word (of (digits_value 10 digits)) → ClassFits word (lettered_class of digits)
 lettered_fits word of digits h = either_fits word (is_numeral digits) (of (digits_value 10 digits)) class_is.Other h tt
 
@@ -89,7 +84,7 @@ class_fits word =
     either_fits word (is_numeral word) _ _ (number_fits word _ _ refl)
     (either_fits word (is_lettered 114 word) _ _ (lettered_fits word register_class (drop 1 word) (register_fits word (digits_value 10 (drop 1 word)) _ refl))
     (either_fits word (is_lettered 112 word) _ _ (lettered_fits word promise_class (drop 1 word) (promise_fits word (digits_value 10 (drop 1 word)) _ refl))
-    (name_fits word _ refl)))
+    (either_fits word (is_name word) class_is.Name class_is.Other tt tt)))
 
 -- ---- parts
 
@@ -203,7 +198,7 @@ comp_is tree (Some (thing.Named sort.Comp place)) q f e =
     part_is tree a_comp (comp_part (comp.Named place)) q (record { fits = f; same = refl }) e
 comp_is tree (Some (thing.Named _ place)) q f e = cc
 
-name_is : (tree : Tree) (word : List ℕ) (o : Option Thing) (q : Part) → is_name word ≡ true → new_name word o ≡ Ok q → PartIs tree a_new_name q
+name_is : (tree : Tree) (word : List ℕ) (o : Option Thing) (q : Part) → class word ≡ class_is.Name → new_name word o ≡ Ok q → PartIs tree a_new_name q
 name_is tree word (Some t) q n e = cc
 name_is tree word None q n e =
     part_is tree a_new_name (name_part word) q (record { fits = n; same = refl }) e
@@ -231,40 +226,40 @@ tests_are tree word q =
 
 -- ---- words
 
-read_is : (tree : Tree) (names : List Named) (shape : Shape) (word : List ℕ) (c : Class) (q : Part) → ClassFits word c → NamesFit tree names
+read_is : (tree : Tree) (names : List Named) (shape : Shape) (word : List ℕ) (c : Class) (q : Part) → class word ≡ c → ClassFits word c → NamesFit tree names
     → class_read names shape word c ≡ Ok q → PartIs tree shape q
-read_is tree names a_register word (class_is.Register r) q f n e = part_is tree a_register (number_part r) q (record { fits = f; same = refl }) e
-read_is tree names a_register word class_is.LargeRegister q f n e = no_part tree a_register q cause.LargeRegister e
-read_is tree names a_register word _ q f n e = no_part tree a_register q cause.Word e
-read_is tree names a_value word (class_is.Register r) q f n e = part_is tree a_value (operand_part (operand.Reg r)) q (record { fits = f; same = refl }) e
-read_is tree names a_value word class_is.LargeRegister q f n e = no_part tree a_value q cause.LargeRegister e
-read_is tree names a_value word (class_is.Number k) q f n e = part_is tree a_value (operand_part (operand.Num k)) q (record { fits = f; same = refl }) e
-read_is tree names a_value word class_is.LargeNumber q f n e = no_part tree a_value q cause.LargeNumber e
-read_is tree names a_value word _ q f n e = no_part tree a_value q cause.Word e
-read_is tree names a_number word (class_is.Number k) q f n e = part_is tree a_number (number_part k) q (record { fits = f; same = refl }) e
-read_is tree names a_number word class_is.LargeNumber q f n e = no_part tree a_number q cause.LargeNumber e
-read_is tree names a_number word _ q f n e = no_part tree a_number q cause.Word e
-read_is tree names a_key word (class_is.Number k) q f n e = key_is tree k q (nat_lt k 16) refl e
-read_is tree names a_key word class_is.LargeNumber q f n e = no_part tree a_key q cause.LargeNumber e
-read_is tree names a_key word _ q f n e = no_part tree a_key q cause.Word e
-read_is tree names a_promise word (class_is.Promise p) q f n e = part_is tree a_promise (number_part p) q (record { fits = f; same = refl }) e
-read_is tree names a_promise word class_is.LargePromise q f n e = no_part tree a_promise q cause.LargeRegister e
-read_is tree names a_promise word _ q f n e = no_part tree a_promise q cause.Word e
-read_is tree names a_comp word (class_is.Promise p) q f n e = part_is tree a_comp (comp_part (comp.Promise p)) q (record { fits = f; same = refl }) e
-read_is tree names a_comp word class_is.LargePromise q f n e = no_part tree a_comp q cause.LargeRegister e
-read_is tree names a_comp word class_is.Name q f n e = comp_is tree (thing_of names word) q (found_fits tree names word n) e
-read_is tree names a_comp word _ q f n e = no_part tree a_comp q cause.Word e
-read_is tree names a_test word c q f n e = tests_are tree word q e
-read_is tree names a_new_name word class_is.Name q f n e = name_is tree word (thing_of names word) q f e
-read_is tree names a_new_name word _ q f n e = no_part tree a_new_name q cause.Word e
-read_is tree names a_fillable word class_is.Name q f n e =
+read_is tree names a_register word (class_is.Register r) q k f n e = part_is tree a_register (number_part r) q (record { fits = f; same = refl }) e
+read_is tree names a_register word class_is.LargeRegister q k f n e = no_part tree a_register q cause.LargeRegister e
+read_is tree names a_register word _ q k f n e = no_part tree a_register q cause.Word e
+read_is tree names a_value word (class_is.Register r) q k f n e = part_is tree a_value (operand_part (operand.Reg r)) q (record { fits = f; same = refl }) e
+read_is tree names a_value word class_is.LargeRegister q k f n e = no_part tree a_value q cause.LargeRegister e
+read_is tree names a_value word (class_is.Number m) q k f n e = part_is tree a_value (operand_part (operand.Num m)) q (record { fits = f; same = refl }) e
+read_is tree names a_value word class_is.LargeNumber q k f n e = no_part tree a_value q cause.LargeNumber e
+read_is tree names a_value word _ q k f n e = no_part tree a_value q cause.Word e
+read_is tree names a_number word (class_is.Number m) q k f n e = part_is tree a_number (number_part m) q (record { fits = f; same = refl }) e
+read_is tree names a_number word class_is.LargeNumber q k f n e = no_part tree a_number q cause.LargeNumber e
+read_is tree names a_number word _ q k f n e = no_part tree a_number q cause.Word e
+read_is tree names a_key word (class_is.Number m) q k f n e = key_is tree m q (nat_lt m 16) refl e
+read_is tree names a_key word class_is.LargeNumber q k f n e = no_part tree a_key q cause.LargeNumber e
+read_is tree names a_key word _ q k f n e = no_part tree a_key q cause.Word e
+read_is tree names a_promise word (class_is.Promise p) q k f n e = part_is tree a_promise (number_part p) q (record { fits = f; same = refl }) e
+read_is tree names a_promise word class_is.LargePromise q k f n e = no_part tree a_promise q cause.LargeRegister e
+read_is tree names a_promise word _ q k f n e = no_part tree a_promise q cause.Word e
+read_is tree names a_comp word (class_is.Promise p) q k f n e = part_is tree a_comp (comp_part (comp.Promise p)) q (record { fits = f; same = refl }) e
+read_is tree names a_comp word class_is.LargePromise q k f n e = no_part tree a_comp q cause.LargeRegister e
+read_is tree names a_comp word class_is.Name q k f n e = comp_is tree (thing_of names word) q (found_fits tree names word n) e
+read_is tree names a_comp word _ q k f n e = no_part tree a_comp q cause.Word e
+read_is tree names a_test word c q k f n e = tests_are tree word q e
+read_is tree names a_new_name word class_is.Name q k f n e = name_is tree word (thing_of names word) q k e
+read_is tree names a_new_name word _ q k f n e = no_part tree a_new_name q cause.Word e
+read_is tree names a_fillable word class_is.Name q k f n e =
     place_is tree (λ s. (s == 6) || (s == 7)) a_fillable (thing_of names word) q (fillable tree) (found_fits tree names word n) e
-read_is tree names a_fillable word _ q f n e = no_part tree a_fillable q cause.Word e
-read_is tree names (a_place s) word class_is.Name q f n e =
+read_is tree names a_fillable word _ q k f n e = no_part tree a_fillable q cause.Word e
+read_is tree names (a_place s) word class_is.Name q k f n e =
     place_is tree (λ t. t == sort_number s) (a_place s) (thing_of names word) q (of_this_sort tree s) (found_fits tree names word n) e
-read_is tree names (a_place s) word _ q f n e = no_part tree (a_place s) q cause.Word e
+read_is tree names (a_place s) word _ q k f n e = no_part tree (a_place s) q cause.Word e
 
 -- the part that a word is read as
 pub word_is : (tree : Tree) (names : List Named) (shape : Shape) (word : List ℕ) (q : Part) → NamesFit tree names
     → word_read names shape word ≡ Ok q → PartIs tree shape q
-word_is tree names shape word q n e = read_is tree names shape word (class word) q (class_fits word) n e
+word_is tree names shape word q n e = read_is tree names shape word (class word) q refl (class_fits word) n e

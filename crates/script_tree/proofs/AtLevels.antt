@@ -111,13 +111,11 @@ select_open s levels around o place (a_select n v f parts p is) = refl
 pub group_open : (s : State) (levels : Levels) (around : Level) (o : Opener) (place : ℕ) → IsGroup s o → IsAt levels.events around place
     → OpenStands levels around o (inside around o) place
 group_open s levels around o place (a_group group_form.Choose parts p) at = (refl, at)
-group_open s levels around o place (a_group group_form.Wrap parts p) at = (refl, at)
-group_open s levels around o place (a_group group_form.Guard parts p) at = (refl, at)
+group_open s levels around o place _ at = (refl, at)
 
 pub group_level : (s : State) (level : Level) (o : Opener) → IsGroup s o → inside level o ≡ inside level opener.Choose
 group_level s level o (a_group group_form.Choose parts p) = refl
-group_level s level o (a_group group_form.Wrap parts p) = refl
-group_level s level o (a_group group_form.Guard parts p) = refl
+group_level s level o _ = refl
 
 pub behind_open : (levels : Levels) (around level : Level) (o behind : Opener) (place : ℕ) → Ends o behind → OpenStands levels around behind level place
 behind_open levels around level o behind place a_text = tt
@@ -130,16 +128,9 @@ pub becomes_stands : (levels : Levels) (around level : Level) (place : ℕ) (o :
 becomes_stands levels around level place o x a_then f = (subst (λ k. IsAt levels.blocks k place) f.0 f.1, tt)
 becomes_stands levels around level place o x (an_else {then_place = first}) f =
     (subst (λ k. IsAt levels.blocks k first) f.0 f.2, subst (λ k. IsAt levels.blocks k place) f.0 f.1)
-becomes_stands levels around level place o x a_loop f = subst (λ k. IsAt levels.blocks k place) f.0 f.1
 becomes_stands levels around level place o x (a_handler {body = first}) f =
     (subst (λ k. IsAt levels.blocks k first) f.0 f.2, subst (λ k. IsAt levels.blocks k place) f.0 f.1)
-becomes_stands levels around level place o x a_forbid f = subst (λ k. IsAt levels.blocks k place) f.0 f.1
-becomes_stands levels around level place o x a_permit f = subst (λ k. IsAt levels.blocks k place) f.0 f.1
-becomes_stands levels around level place o x an_under f = subst (λ k. IsAt levels.blocks k place) f.0 f.1
-becomes_stands levels around level place o x a_link f = subst (λ k. IsAt levels.blocks k place) f.0 f.1
-becomes_stands levels around level place o x a_protect f = subst (λ k. IsAt levels.blocks k place) f.0 f.1
-becomes_stands levels around level place o x a_bundle f = subst (λ k. IsAt levels.blocks k place) f.0 f.1
-becomes_stands levels around level place o x a_flock f = subst (λ k. IsAt levels.blocks k place) f.0 f.1
+becomes_stands levels around level place o x _ f = subst (λ k. IsAt levels.blocks k place) f.0 f.1
 
 -- events in something of the level that is that of what ends
 pub events_at : (levels : Levels) (level inner : Level) (members : List ℕ) → level ≡ inner → IsShallow level
@@ -149,15 +140,13 @@ events_at levels level inner members e shallow all = subst (λ k. AreEventsAt le
 pub groups_stand : (levels : Levels) (around level : Level) (place : ℕ) (members : List ℕ) (o : Opener) (e : EventTree) → Groups members o e
     → OpenStands levels around o level place → IsShallow level → AllByRecursion (IsAt levels.events level) members → EventStands levels around e
 groups_stand levels around level place members o e a_choose f shallow all = events_at levels level _ members f.0 shallow all
-groups_stand levels around level place members o e a_wrap f shallow all = events_at levels level _ members f.0 shallow all
-groups_stand levels around level place members o e a_guard f shallow all = events_at levels level _ members f.0 shallow all
+groups_stand levels around level place members o e _ f shallow all = events_at levels level _ members f.0 shallow all
 
 -- the place of a group of events
 pub own_event : (levels : Levels) (around level : Level) (place : ℕ) (members : List ℕ) (o : Opener) (e : EventTree) → Groups members o e
     → OpenStands levels around o level place → IsAt levels.events around place
 own_event levels around level place members o e a_choose f = f.1
-own_event levels around level place members o e a_wrap f = f.1
-own_event levels around level place members o e a_guard f = f.1
+own_event levels around level place members o e _ f = f.1
 
 -- ---- one block more
 

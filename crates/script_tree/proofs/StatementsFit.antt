@@ -27,14 +27,15 @@ use Rattle.script_tree.specs.WellFormed.{PartsFit, StmtFits, OpenerFits, EventFi
 use Rattle.script_tree.proofs.Fitting.{NamesFit}
 use Rattle.script_tree.proofs.Moves.{IsStated, basic, on_comps, on_objects, on_fibers, IsBlock, a_block, IsSelect, a_select, IsGroup, a_group}
 use Rattle.script_tree.proofs.Readings.{ArePartsOf}
-use Rattle.script_tree.proofs.Rebuilding.{rebuilt, words_are, rebuilt_fits}
+use Rattle.script_tree.proofs.Rebuilding.{made_parts_fit}
+use Rattle.script_tree.proofs.Remade.{all_wanted}
 
 -- the parts fit the form, as the line that is made of them has them
 abbrev pub AreFor : Tree → Form → List Part → Type 0
-AreFor tree f parts = PartsFit tree (shapes f) (rebuilt 0 (shapes f) parts)
+AreFor tree f parts = PartsFit tree (shapes f) (all_wanted (shapes f) 0 parts)
 
 pub are_for : (s : State) (tree : Tree) (f : Form) (parts : List Part) → NamesFit tree s.names → ArePartsOf s f parts → AreFor tree f parts
-are_for s tree f parts n p = rebuilt_fits tree (shapes f) parts (words_are tree s.names (shapes f) p.words parts n p.read)
+are_for s tree f parts n p = made_parts_fit tree s.names (shapes f) p.words parts n p.read
 
 basic_fits : (tree : Tree) (holder : ℕ) (f : BasicForm) (parts : List Part) → AreFor tree (form.Basic f) parts → StmtFits tree holder (basic_form_made f parts)
 basic_fits tree holder basic_form.Set parts r = r

@@ -89,7 +89,9 @@ fn is_name(word: &[u8]) -> bool
     ensures { result ≡ is_name_in word.now }
 {
     match word.first() {
-        Some(first) => first.is_ascii_lowercase() && word.len() <= NAME_LENGTH && are_name_bytes(word),
+        Some(first) => first.is_ascii_lowercase()
+            && word.len() <= NAME_LENGTH
+            && are_name_bytes(word),
         None => false,
     }
 }

@@ -51,12 +51,9 @@ module _ (P : Stmt → Type 0) (s : State) (h : Each P s) where
 
   pub moves_each : {t : State} → Moves s t → OfNew P s → Each P t
   moves_each (declares f parts p holds full) n = record { blocks = h.blocks; frames = h.frames }
-  moves_each (begins_fiber parts p holds full) n = record { blocks = with_empty s.blocks h.blocks; frames = (tt, h.frames) }
-  moves_each (begins_main holds) n = record { blocks = with_empty s.blocks h.blocks; frames = (tt, h.frames) }
   moves_each (states x p holds full breaks) n =
       record { blocks = h.blocks; frames = (all_push P s.top.stmts x h.frames.0 (n.stated x p), h.frames.1) }
   moves_each (adds_leaf f parts p holds few) n = record { blocks = h.blocks; frames = h.frames }
-  moves_each (opens o p holds full deep) n = record { blocks = with_empty s.blocks h.blocks; frames = (tt, h.frames) }
   moves_each (opens_select o p holds full deep) n = record { blocks = h.blocks; frames = (tt, h.frames) }
   moves_each (opens_group o p holds deep) n = record { blocks = h.blocks; frames = (tt, h.frames) }
   moves_each (begins_else a q b is) n =
@@ -70,6 +67,7 @@ module _ (P : Stmt → Type 0) (s : State) (h : Each P s) where
       let a = around f fs e in
       record { blocks = h.blocks; frames = (all_push P f.stmts (stmt.Select number value s.top.events) a.0 (n.select number value is), a.1) }
   moves_each (ends_group f fs x e holds groups) n = record { blocks = h.blocks; frames = around f fs e }
+  moves_each _ n = record { blocks = with_empty s.blocks h.blocks; frames = (tt, h.frames) }
 
 -- ---- the limit of selects
 
@@ -97,16 +95,7 @@ stated_keeps s tree x (on_fibers f parts p) = fiber_keeps tree f parts
 
 becomes_keeps : (tree : Tree) (place : ℕ) (o : Opener) (x : Stmt) → Becomes place o x → SelectKeepsLimit tree x
 becomes_keeps tree place o x a_then = tt
-becomes_keeps tree place o x an_else = tt
-becomes_keeps tree place o x a_loop = tt
-becomes_keeps tree place o x a_handler = tt
-becomes_keeps tree place o x a_forbid = tt
-becomes_keeps tree place o x a_permit = tt
-becomes_keeps tree place o x an_under = tt
-becomes_keeps tree place o x a_link = tt
-becomes_keeps tree place o x a_protect = tt
-becomes_keeps tree place o x a_bundle = tt
-becomes_keeps tree place o x a_flock = tt
+becomes_keeps tree place o x _ = tt
 
 select_keeps : (s : State) (tree : Tree) (number value : ℕ) → LeavesCounted s tree → s.top.what ≡ opener.Select number value → HaveFewLeaves tree s.top.events
 select_keeps s tree number value c is = record {

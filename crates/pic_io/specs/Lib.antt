@@ -1,6 +1,6 @@
 pub mod Counts
-pub mod Ends
 pub mod Entries
 pub mod Faults
+pub mod Handed
 pub mod Held
 pub mod Refusals

@@ -1,4 +1,4 @@
-ghost use Rattle.std.specs.Prelude.{◌≡◌, ◌≤◌, ℕ, List, length, Option, Some, IfOk, IsErrOf};
+ghost use Rattle.std.specs.Prelude.{◌≡◌, ◌≤◌, ◌⊎◌, ℕ, List, [], ◌∷◌, ◌++◌, length, Option, Some, IfOk, IsErrOf};
 ghost use Rattle.std.specs.Option.{option_copied};
 ghost use Rattle.pic_io.specs.Faults.{Rose};
 ghost use Rattle.pic_io.specs.Held.{Held, Gives, IsLongerThan};
@@ -49,9 +49,12 @@ impl From<AllocError> for ReadRefusal {
 /// Files that are read whole, by name.
 ///
 /// An implementation tells contracts what each name holds (`held`), or leaves it untold, as one
-/// does whose files others may change.
+/// does whose files others may change. It tells which reads there were in any case.
 pub trait Files {
     ghost held: { Self → List ℕ → Held };
+
+    // The names of all reads that were made so far, in order.
+    ghost reads: { Self → List (List ℕ) };
 
     ghost fault_count: { Self → ℕ };
 
@@ -72,6 +75,12 @@ pub trait Files {
         ensures within { IfOk result (λ bytes. length bytes.items ≤ limit) }
         ensures too_large { IsErrOf result ReadRefusal.TooLarge →
             IsLongerThan (held self.old name.now) limit }
+        ensures made { (IsErrOf result ReadRefusal.Memory → ⊥) →
+            reads self.new ≡ reads self.old ++ name.now ∷ [] }
+
+        // Memory may be wanting before the read is made.
+        ensures unmade { IsErrOf result ReadRefusal.Memory →
+            (reads self.new ≡ reads self.old) ⊎ (reads self.new ≡ reads self.old ++ name.now ∷ []) }
         ensures failed { IsErrOf result ReadRefusal.Failed →
             Rose (fault_count self.old) (fault_count self.new) }
         ensures steady { fault_count self.old ≤ fault_count self.new }

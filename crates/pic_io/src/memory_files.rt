@@ -1,10 +1,11 @@
-ghost use Rattle.std.specs.Prelude.{◌≡◌, ◌+◌, ◌≤◌, ◌⊎◌, [], ◌∷◌, ◌++◌, length, string_bytes, option_map, option_copied, Some, None, IfOk, OnErr, OnOk, IsErrOf, Contains};
+ghost use Rattle.std.specs.Prelude.{◌≡◌, ◌+◌, ◌≤◌, ◌⊎◌, [], ◌∷◌, ◌++◌, length, map, string_bytes, option_map, option_copied, Some, None, IfOk, OnErr, OnOk, IsErrOf, Contains};
 ghost use Rattle.pic_io.specs.Counts.{next_count};
 ghost use Rattle.pic_io.specs.Entries.{first_of_name, held_in, texts_of};
 ghost use Rattle.pic_io.specs.Faults.{Rose};
 ghost use Rattle.pic_io.specs.Held.{missing, holds, IsLongerThan};
 
 use crate::files::{Files, ReadRefusal};
+use crate::names::push_name;
 use std::alloc::{AllocError, Global};
 
 /// Files in memory, which fail where they are told to: what a test reads from.
@@ -17,8 +18,11 @@ pub struct MemFiles {
     pub name: Option<String>,
     /// The numbers of the reads that fail, from 1.
     pub failing: Vec<u64>,
-    /// How many reads there were, whatever they answered. The count stands still at its type's end.
+    /// How many calls there were, whatever they answered. The count stands still at its type's end.
     pub calls: u64,
+    /// The names of the reads that were made, in order: of each call but those that had no memory
+    /// for the name.
+    pub reads: Vec<String>,
     /// How many reads have failed. The count stands still at its type's end.
     pub failed: u64,
 }
@@ -30,6 +34,7 @@ impl MemFiles {
         ensures name { result.name ≡ None }
         ensures failing { result.failing.items ≡ [] }
         ensures calls { result.calls ≡ 0 }
+        ensures reads { result.reads.items ≡ [] }
         ensures failed { result.failed ≡ 0 }
     {
         MemFiles {
@@ -37,6 +42,7 @@ impl MemFiles {
             name: None,
             failing: Vec::new(alloc),
             calls: 0,
+            reads: Vec::new(alloc),
             failed: 0,
         }
     }
@@ -93,6 +99,8 @@ impl MemFiles {
 impl Files for MemFiles {
     ghost held = { λ files. held_in files.entries.items };
 
+    ghost reads = { λ files. map string_bytes files.reads.items };
+
     ghost fault_count = { λ files. files.failed };
 
     ghost last_failed = { λ files. option_map string_bytes files.name };
@@ -123,6 +131,13 @@ impl Files for MemFiles {
         ensures to_fail { Contains self.old.failing.items self.new.calls →
             IsErrOf result ReadRefusal.Failed ⊎ IsErrOf result ReadRefusal.Memory }
 
+        ensures made { (IsErrOf result ReadRefusal.Memory → ⊥) →
+            map string_bytes self.new.reads.items ≡
+            map string_bytes self.old.reads.items ++ name.now ∷ [] }
+        ensures unmade { IsErrOf result ReadRefusal.Memory →
+            (map string_bytes self.new.reads.items ≡ map string_bytes self.old.reads.items)
+            ⊎ (map string_bytes self.new.reads.items ≡
+            map string_bytes self.old.reads.items ++ name.now ∷ []) }
         ensures failed { IsErrOf result ReadRefusal.Failed → Rose self.old.failed self.new.failed }
         ensures steady { self.old.failed ≤ self.new.failed }
         ensures counted { self.new.calls ≡ next_count self.old.calls }
@@ -138,6 +153,7 @@ impl Files for MemFiles {
     {
         self.calls = self.calls.saturating_add(1);
         let copy = String::from_str(alloc, name)?;
+        push_name(&mut self.reads, name)?;
         match self.answer(alloc, name, limit) {
             Err(ReadRefusal::Failed) => {
                 self.failed = self.failed.saturating_add(1);
@@ -194,6 +210,11 @@ mod tests {
             assert_eq!(rt; files.faults(), faults);
         }
         assert_eq!(rt; files.calls, 7);
+        let names: [&str; 7] = ["a", "a", "c", "b", "a", "a", "a"];
+        assert_eq!(rt; files.reads.len(), names.len());
+        for (made, name) in files.reads.iter().zip(names) {
+            assert_eq!(rt; made.as_str(), name);
+        }
         Ok(())
     }
 }

@@ -1,9 +1,10 @@
-ghost use Rattle.std.specs.Prelude.{◌≡◌, ◌≢◌, ◌<◌, ◌≤◌, length, string_bytes, option_map, Some, IfOk, IfSome, IsErrOf};
+ghost use Rattle.std.specs.Prelude.{◌≡◌, ◌≢◌, ◌<◌, ◌≤◌, ◌⊎◌, [], ◌∷◌, ◌++◌, length, map, string_bytes, option_map, Some, IfOk, IfSome, IsErrOf};
 ghost use Rattle.std.specs.IoError.{error_kind};
 ghost use Rattle.pic_io.specs.Counts.{next_count};
 ghost use Rattle.pic_io.specs.Faults.{Rose};
 
 use crate::files::{Files, ReadRefusal};
+use crate::names::push_name;
 use std::alloc::Global;
 use std::io::{ErrorKind, Read};
 use std::{fs, io, rt};
@@ -13,6 +14,8 @@ use std::{fs, io, rt};
 #[derive(Drop)]
 pub struct RealFiles<R> {
     rt: R,
+    /// The names of the reads that were made, in order.
+    pub reads: Vec<String>,
     /// How many reads have failed. The count stands still at its type's end.
     pub failed: u64,
     /// The name that the last read with the answer `Failed` was given.
@@ -21,12 +24,14 @@ pub struct RealFiles<R> {
 
 impl<R> RealFiles<R> {
     /// The runtime's files, before the first read.
-    pub fn new(rt: R) -> Self
+    pub fn new(alloc: Global, rt: R) -> Self
+        ensures reads { result.reads.items ≡ [] }
         ensures failed { result.failed ≡ 0 }
         ensures name { result.name ≡ None }
     {
         RealFiles {
             rt,
+            reads: Vec::new(alloc),
             failed: 0,
             name: None,
         }
@@ -37,6 +42,8 @@ impl<R: rt::Files> Files for RealFiles<R> {
     ghost use Rattle.pic_io.specs.Held.{untold};
 
     ghost held = { λ _ _. untold };
+
+    ghost reads = { λ files. map string_bytes files.reads.items };
 
     ghost fault_count = { λ files. files.failed };
 
@@ -57,6 +64,13 @@ impl<R: rt::Files> Files for RealFiles<R> {
     /// bytes are read.
     fn read(&mut self, alloc: Global, name: &str, limit: usize) -> Result<Vec<u8>, ReadRefusal>
         ensures within { IfOk result (λ bytes. length bytes.items ≤ limit) }
+        ensures made { (IsErrOf result ReadRefusal.Memory → ⊥) →
+            map string_bytes self.new.reads.items ≡
+            map string_bytes self.old.reads.items ++ name.now ∷ [] }
+        ensures unmade { IsErrOf result ReadRefusal.Memory →
+            (map string_bytes self.new.reads.items ≡ map string_bytes self.old.reads.items)
+            ⊎ (map string_bytes self.new.reads.items ≡
+            map string_bytes self.old.reads.items ++ name.now ∷ []) }
         ensures failed { IsErrOf result ReadRefusal.Failed → Rose self.old.failed self.new.failed }
         ensures steady { self.old.failed ≤ self.new.failed }
         ensures rose { IsErrOf result ReadRefusal.Failed →
@@ -68,6 +82,7 @@ impl<R: rt::Files> Files for RealFiles<R> {
         ensures unnamed { (IsErrOf result ReadRefusal.Failed → ⊥) → self.new.name ≡ self.old.name }
     {
         let copy = String::from_str(alloc, name)?;
+        push_name(&mut self.reads, name)?;
         match content_of(&self.rt, alloc, name, limit) {
             Err(ReadRefusal::Failed) => {
                 self.failed = self.failed.saturating_add(1);
@@ -158,7 +173,7 @@ mod tests {
         let path = format!(in alloc; "{folder}/pic_io_{id}.txt")?;
         let name = path.as_str();
 
-        let mut files = RealFiles::new(&rt);
+        let mut files = RealFiles::new(alloc, &rt);
         assert_eq!(rt; files.read(alloc, name, 12), Err(ReadRefusal::Failed));
         assert_eq!(rt; files.failed_name(), Some(name));
         assert_eq!(rt; files.read(alloc, folder, 12), Err(ReadRefusal::Failed));
@@ -170,6 +185,11 @@ mod tests {
         assert_eq!(rt; content?.as_slice(), b"twelve bytes".as_slice());
         assert_eq!(rt; files.failed_name(), Some(folder));
         assert_eq!(rt; files.faults(), 2);
+        let names = [name, folder, name, name];
+        assert_eq!(rt; files.reads.len(), names.len());
+        for (made, name) in files.reads.iter().zip(names) {
+            assert_eq!(rt; made.as_str(), name);
+        }
         Ok(())
     }
 

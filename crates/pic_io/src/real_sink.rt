@@ -1,42 +1,25 @@
-ghost use Rattle.std.specs.Prelude.{◌≡◌, ◌<◌, ◌≤◌, ◌+◌, ◌++◌, [], length, take, Ok, IfOk, OnErr, OnOk, IsErrOf};
+ghost use Rattle.std.specs.Prelude.{◌≡◌, ◌<◌, ◌≤◌, length, Ok, IfOk, IsErrOf};
 ghost use Rattle.pic_io.specs.Counts.{next_count};
-ghost use Rattle.pic_io.specs.Ends.{IsEndOf};
 ghost use Rattle.pic_io.specs.Faults.{Rose};
-ghost use Rattle.pic_io.specs.declared.real_sink.TheConstants.{ROOM};
 
 use crate::sink::{Sink, SinkRefusal};
-use std::alloc::{AllocError, Global};
 use std::io;
 
-/// How many bytes a `RealSink` gathers at most before it writes them.
-pub const ROOM: usize = 65_536;
-
 /// The standard output of a runtime: the trusted edge. What it has taken is not told, since others
-/// may write there too.
-///
-/// Small pieces are gathered, and written together. Whoever has put the last piece calls `finish`:
-/// what is gathered then is written by nobody else.
+/// may write there too. Each put is one write.
 #[derive(Drop)]
 pub struct RealSink<R> {
     rt: R,
-    /// What was put and is not written yet.
-    pub gathered: Vec<u8>,
     /// How many writes have failed. The count stands still at its type's end.
     pub failed: u64,
-    ghost within_room: { length gathered.items ≤ ROOM },
 }
 
 impl<R> RealSink<R> {
-    /// The runtime's standard output, before the first put. No memory is taken yet.
-    pub fn new(alloc: Global, rt: R) -> Self
-        ensures gathered { result.gathered.items ≡ [] }
-        ensures failed { result.failed ≡ 0 }
+    /// The runtime's standard output, before the first put.
+    pub fn new(rt: R) -> Self
+        ensures { result.failed ≡ 0 }
     {
-        RealSink {
-            rt,
-            gathered: Vec::new(alloc),
-            failed: 0,
-        }
+        RealSink { rt, failed: 0 }
     }
 
     /// How many bytes a write took, where it took any. A write that takes nothing is a fault, as is
@@ -49,7 +32,6 @@ impl<R> RealSink<R> {
             self.new.failed ≡ next_count self.old.failed }
         ensures unrisen { (IsErrOf result SinkRefusal.Failed → ⊥) →
             self.new.failed ≡ self.old.failed }
-        ensures kept { self.new.gathered ≡ self.old.gathered }
     {
         match written {
             Ok(count) if count > 0 => Ok(count),
@@ -59,39 +41,6 @@ impl<R> RealSink<R> {
                 Err(SinkRefusal::Failed)
             }
         }
-    }
-
-    /// Adds a piece to what was gathered. The first one takes the memory for all that follow.
-    fn gather(&mut self, piece: &[u8]) -> Result<(), AllocError>
-        requires { length self.old.gathered.items + length piece.now ≤ ROOM }
-        ensures ok { OnOk result (self.new.gathered.items ≡ self.old.gathered.items ++ piece.now) }
-        ensures err { OnErr result (self.new.gathered.items ≡ self.old.gathered.items) }
-        ensures failed { self.new.failed ≡ self.old.failed }
-    {
-        self.gathered.reserve_exact(ROOM - self.gathered.len())?;
-        self.gathered.extend_from_slice(piece)
-    }
-}
-
-impl<R: Print> RealSink<R> {
-    /// Writes what was gathered. A write that fails ends the call and counts as a fault, and then
-    /// what was not written is still gathered.
-    pub fn finish(&mut self) -> Result<(), SinkRefusal>
-        ensures written { OnOk result (self.new.gathered.items ≡ []) }
-        ensures left { IsEndOf self.new.gathered.items self.old.gathered.items }
-        ensures failed { IsErrOf result SinkRefusal.Failed → Rose self.old.failed self.new.failed }
-        ensures steady { self.old.failed ≤ self.new.failed }
-        ensures rose { IsErrOf result SinkRefusal.Failed →
-            self.new.failed ≡ next_count self.old.failed }
-        ensures unrisen { (IsErrOf result SinkRefusal.Failed → ⊥) →
-            self.new.failed ≡ self.old.failed }
-    {
-        'writes: while !self.gathered.is_empty() {
-            let written = self.rt.write_some(self.gathered.as_slice());
-            let count = self.judged(written)?;
-            self.gathered.drain(..count);
-        }
-        Ok(())
     }
 }
 
@@ -106,29 +55,10 @@ impl<R: Print> Sink for RealSink<R> {
         self.failed
     }
 
-    /// A piece that fits in the room is gathered. Before any other one, what was gathered is
-    /// written; a piece that is longer than the whole room then goes to one write of its own. Where
-    /// the memory of the room is refused, so is the piece.
     fn put(&mut self, piece: &[u8]) -> Result<usize, SinkRefusal>
         requires { 0 < length piece.now }
         ensures some { IfOk result (λ n. 0 < n) }
         ensures within { IfOk result (λ n. n ≤ length piece.now) }
-
-        // For a piece that fits nothing is written, so no write fails.
-        ensures whole { length self.old.gathered.items + length piece.now ≤ ROOM →
-            IfOk result (λ n. n ≡ length piece.now) }
-        ensures gathered { length self.old.gathered.items + length piece.now ≤ ROOM →
-            OnOk result (self.new.gathered.items ≡ self.old.gathered.items ++ piece.now) }
-        ensures unwritten { length self.old.gathered.items + length piece.now ≤ ROOM →
-            OnErr result (self.new.gathered.items ≡ self.old.gathered.items) }
-        ensures unfailing { length self.old.gathered.items + length piece.now ≤ ROOM →
-            IsErrOf result SinkRefusal.Failed → ⊥ }
-
-        // What is gathered is always the end of what was put, in its order.
-        ensures behind { IfOk result (λ n. IsEndOf self.new.gathered.items
-            (self.old.gathered.items ++ take n piece.now)) }
-        ensures left { OnErr result (IsEndOf self.new.gathered.items self.old.gathered.items) }
-
         ensures failed { IsErrOf result SinkRefusal.Failed → Rose self.old.failed self.new.failed }
         ensures steady { self.old.failed ≤ self.new.failed }
         ensures rose { IsErrOf result SinkRefusal.Failed →
@@ -136,21 +66,16 @@ impl<R: Print> Sink for RealSink<R> {
         ensures unrisen { (IsErrOf result SinkRefusal.Failed → ⊥) →
             self.new.failed ≡ self.old.failed }
     {
-        if piece.len() > ROOM - self.gathered.len() {
-            self.finish()?;
-        }
-        if piece.len() > ROOM {
-            let written = self.rt.write_some(piece);
-            return self.judged(written);
-        }
-        self.gather(piece)?;
-        Ok(piece.len())
+        let written = self.rt.write_some(piece);
+        self.judged(written)
     }
 }
 
 #[cfg(test)]
 mod tests {
     use super::*;
+    use crate::gathered::{Gathered, ROOM};
+    use std::alloc::{AllocError, Global};
     use std::cell::Cell;
     use std::fmt::Display;
     use std::fs::{File, OpenOptions};
@@ -216,25 +141,17 @@ mod tests {
 
     #[test]
     fn writes_to_the_output(rt: HostRuntime) {
-        let mut sink = RealSink::new(rt.alloc(), &rt);
+        let mut sink = RealSink::new(&rt);
         assert_eq!(rt; sink.put(b"a line\n"), Ok(7));
-        assert_eq!(rt; sink.finish(), Ok(()));
         assert_eq!(rt; sink.faults(), 0);
     }
 
     #[test]
-    fn counts_what_is_not_taken(rt: HostRuntime) -> Result<(), Fail> {
-        let alloc = rt.alloc();
-        let long = vec![in alloc; 7u8; ROOM + 1]?;
-        let mut sink = RealSink::new(alloc, Stuck);
-        assert_eq!(rt; sink.finish(), Ok(()));
-        assert_eq!(rt; sink.put(long.as_slice()), Err(SinkRefusal::Failed));
-        assert_eq!(rt; sink.put(b"a line\n"), Ok(7));
-        assert_eq!(rt; sink.finish(), Err(SinkRefusal::Failed));
-        assert_eq!(rt; sink.finish(), Err(SinkRefusal::Failed));
-        assert_eq!(rt; sink.put(long.as_slice()), Err(SinkRefusal::Failed));
-        assert_eq!(rt; sink.faults(), 4);
-        Ok(())
+    fn counts_what_is_not_taken(rt: HostRuntime) {
+        let mut sink = RealSink::new(Stuck);
+        assert_eq!(rt; sink.put(b"a line\n"), Err(SinkRefusal::Failed));
+        assert_eq!(rt; sink.put(b"a line\n"), Err(SinkRefusal::Failed));
+        assert_eq!(rt; sink.faults(), 2);
     }
 
     #[test]
@@ -246,10 +163,8 @@ mod tests {
             interrupted: u32::MAX,
             writes: Cell::new(0),
         };
-        let mut sink = RealSink::new(rt.alloc(), output);
-        assert_eq!(rt; sink.put(b"a line\n"), Ok(7));
-        assert_eq!(rt; sink.faults(), 0);
-        assert_eq!(rt; sink.finish(), Err(SinkRefusal::Failed));
+        let mut sink = RealSink::new(output);
+        assert_eq!(rt; sink.put(b"a line\n"), Err(SinkRefusal::Failed));
         assert_eq!(rt; sink.faults(), 1);
         Ok(())
     }
@@ -292,7 +207,7 @@ mod tests {
             writes: Cell::new(0),
         };
 
-        let mut sink = RealSink::new(alloc, output);
+        let mut sink = Gathered::new(alloc, RealSink::new(output));
         let (mut wanted, refused) = lines_put(&mut sink, alloc, 20_000)?;
         let long = vec![in alloc; 7u8; ROOM + 1]?;
         assert_eq!(rt; sink.put(long.as_slice()), Ok(10_000));

@@ -29,7 +29,7 @@ use Rattle.pic_run.specs.Over.{IsOver, IsReportOf}
 use Rattle.pic_report.specs.declared.view.FiberView.{FiberView}
 use Rattle.pic_report.specs.Report.{report}
 use Rattle.pic_report.specs.View.{IsFiberView, IsLeftOf, IsTraceOf, IsViewOf, main_state, view_text}
-use Rattle.pic_run.specs.declared.limits.TheConstants.{LIMITS}
+use Rattle.pic_run.specs.Limits.{limits}
 use Rattle.fiber_body.specs.Starts.{start_of}
 use Rattle.std.specs.Arc.{arc_value}
 use Rattle.pic_machine.specs.declared.world.Start.{Start}
@@ -108,7 +108,7 @@ module _ (script : Tree) (port : Port Body) (closed : Closed Body) (over : IsOve
   }
 
   -- what the port leaves is left of a run from the script's start
-  pub left_of_run : IsLeftOf (start_of script LIMITS) port.front closed
+  pub left_of_run : IsLeftOf (start_of script limits) port.front closed
   left_of_run = record {
     port = sight_of carry_of port;
     origin = over.begun;
@@ -118,8 +118,8 @@ module _ (script : Tree) (port : Port Body) (closed : Closed Body) (over : IsOve
   }
 
   -- the report of a view of that
-  pub report_left : (traced logged : Bool) (made : Report) → arc_value made.program ≡ script → IsViewOf (start_of script LIMITS) port.front traced logged made.view
-      → view_text script made.view ≡ report script (start_of script LIMITS) port.front traced logged → made.status ≡ status_of (main_state made.view.fibers.items) → IsReportOf script port.front traced logged made
+  pub report_left : (traced logged : Bool) (made : Report) → arc_value made.program ≡ script → IsViewOf (start_of script limits) port.front traced logged made.view
+      → view_text script made.view ≡ report script (start_of script limits) port.front traced logged → made.status ≡ status_of (main_state made.view.fibers.items) → IsReportOf script port.front traced logged made
   report_left traced logged made program view text status = record {
     run = run_left;
     text = ap (λ (t : Tree). view_text t made.view) program ∙ text;

@@ -1,3 +1,4 @@
-pub mod Opening
-pub mod Closing
 pub mod Calls
+pub mod Closing
+pub mod Handing
+pub mod Opening

@@ -13,14 +13,14 @@ use Rattle.fiber_body.specs.Fits.{Fits}
 use Rattle.fiber_body.specs.Starts.{start_of}
 use Rattle.fiber_poll.specs.Built.{is_built}
 use Rattle.fiber_poll.specs.Polls.{IsPortOf}
-use Rattle.pic_run.specs.declared.limits.TheConstants.{LIMITS}
+use Rattle.pic_run.specs.Limits.{limits}
 use Rattle.pic_run.specs.Over.{IsOpened}
 
 -- ---- the start
 
-pub can_start : (script : Tree) (start : Start) → start ≡ start_of script LIMITS → start.comps ≤ 577 → CanStart start
+pub can_start : (script : Tree) (start : Start) → start ≡ start_of script limits → start.comps ≤ 577 → CanStart start
 can_start script start is few =
-    let count : (start_of script LIMITS).comps ≤ 577 = subst (λ (s : Start). s.comps ≤ 577) is few in
+    let count : (start_of script limits).comps ≤ 577 = subst (λ (s : Start). s.comps ≤ 577) is few in
     subst CanStart (sym is) (record { root = omega arith; comps = omega (arith, count); main = omega arith })
 
 -- ---- bodies

@@ -7,10 +7,10 @@ use Rattle.pic_machine.specs.Final.{IsFinal}
 use Rattle.pic_machine.specs.History.{origin_of, world}
 use Rattle.pic_machine.specs.Order.{IsInFifoOrder}
 use Rattle.port_plain.specs.Shown.{Shown as Port}
+use Rattle.pic_run.specs.Limits.{limits}
 use Rattle.fiber_body.specs.Shown.{Shown as Body}
 use Rattle.fiber_body.specs.Starts.{start_of}
 use Rattle.script_tree.specs.Tree.{Tree}
-use Rattle.pic_run.specs.declared.limits.TheConstants.{LIMITS}
 use Rattle.pic_run.specs.declared.report.Report.{Report}
 use Rattle.pic_run.specs.Run.{IsRunOf, origin}
 use Rattle.pic_report.specs.Report.{report}
@@ -19,7 +19,7 @@ use Rattle.pic_run.specs.Status.{IsStatusOf}
 
 -- nothing has happened yet, and main is to run the script's main text
 pub record IsOpened (script : Tree) (port : Port Body) : Type 0 where
-  pub start : port.start ≡ start_of script LIMITS
+  pub start : port.start ≡ start_of script limits
   pub share : port.main.program ≡ Some script
   pub front : port.front ≡ []
   pub out : port.out ≡ None
@@ -35,5 +35,5 @@ pub record IsOver (script : Tree) (port : Port Body) : Type 0 where
 -- the report is that of this history, which is a run of the script, and the status is the run's
 pub record IsReportOf (script : Tree) (history : List Happened) (traced logged : Bool) (made : Report) : Type 0 where
   pub run : IsRunOf script history
-  pub text : view_text (arc_value made.program) made.view ≡ report script (start_of script LIMITS) history traced logged
+  pub text : view_text (arc_value made.program) made.view ≡ report script (start_of script limits) history traced logged
   pub status : IsStatusOf (world (origin script) history) made.status

@@ -6,13 +6,13 @@ use Rattle.pic_machine.specs.History.{Origin, origin_of, IsLegal, birth_in, worl
 use Rattle.pic_machine.specs.Log.{log}
 use Rattle.pic_machine.specs.Final.{IsFinal}
 use Rattle.pic_machine.specs.Order.{IsInFifoOrder}
-use Rattle.pic_run.specs.declared.limits.TheConstants.{LIMITS}
+use Rattle.pic_run.specs.Limits.{limits}
 use Rattle.script_tree.specs.Tree.{Tree}
 use Rattle.fiber_body.specs.Follows.{FollowsText}
 use Rattle.fiber_body.specs.Starts.{start_of}
 
 abbrev pub origin : Tree → Origin
-origin script = origin_of (start_of script LIMITS)
+origin script = origin_of (start_of script limits)
 
 -- one legal history of the machine from the script's start, in which each fiber that was made follows
 -- its text from its birth, which ends in a final world, and whose turns stand in the FIFO order

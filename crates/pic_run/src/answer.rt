@@ -1,18 +1,16 @@
 //! Makes ready what a call has to write.
-ghost use Rattle.std.specs.Prelude.{◌≡◌, ◌≤◌, ℕ, List, Some, None, Ok, length, map, string_bytes, IfOk};
+ghost use Rattle.std.specs.Prelude.{◌≡◌, ◌≤◌, ℕ, List, Ok, length, IfOk};
 ghost use Rattle.script_tree.specs.Grammar.{grammar};
-ghost use Rattle.pic_run.specs.Request.{command_of, request as asked_for, run};
+ghost use Rattle.pic_run.specs.Request.{command_of, run};
 ghost use Rattle.pic_run.specs.Answer.{Tells, answer_status, answer_text};
-ghost use Rattle.pic_run.specs.Due.{Answers, Due, asked_of};
+ghost use Rattle.pic_run.specs.Due.{Answers};
 
-use crate::limits::MOST_BYTES;
 use crate::report::{Report, report_of};
-use crate::request::{Mode, Request, RequestRefusal, request_of};
+use crate::request::{Mode, Request};
 use crate::run::run_program;
 use crate::status::Status;
 use fiber_poll::built;
 use pic_base::Memory;
-use pic_io::{Files, ReadRefusal};
 use script_tree::{ParseRefusal, Program, Refused, parse, show};
 use std::alloc::Global;
 use std::sync::Arc;
@@ -31,49 +29,12 @@ pub(crate) enum Answer {
     Report(Report),
 }
 
-/// What a call with these words has to write.
-pub(crate) fn answer_of<F: Files>(
+/// What a call has to write that asks so of these bytes.
+pub(crate) fn answer_of_text(
     alloc: Global,
-    words: &[String],
-    files: &mut F,
-) -> Result<Answer, Memory>
-    ensures due { IfOk result (λ answer.
-        Due (asked_of (map string_bytes words.now) (F.held files.old)
-        (F.fault_count files.old) (F.fault_count files.new) (F.last_failed files.new))
-        (answer_text answer) (answer_status answer)) }
-    ensures untouched { asked_for (map string_bytes words.now) ≡ None → files.new ≡ files.old }
-    ensures kept { (name : List ℕ) → F.held files.new name ≡ F.held files.old name }
-{
-    match request_of(words) {
-        Ok(request) => { answer_of_file(alloc, files, &request) }
-        Err(RequestRefusal::Usage) => Ok(Answer::Text("usage\n", Status::Usage)),
-        Err(RequestRefusal::Memory) => Err(Memory),
-    }
-}
-
-/// What a call has to write that asks so of a script's file.
-fn answer_of_file<F: Files>(
-    alloc: Global,
-    files: &mut F,
     request: &Request,
+    bytes: &[u8],
 ) -> Result<Answer, Memory>
-    ensures due { IfOk result (λ answer. (words : List (List ℕ))
-        → asked_for words ≡ Some (command_of request.now)
-        → Due (asked_of words (F.held files.old)
-        (F.fault_count files.old) (F.fault_count files.new) (F.last_failed files.new))
-        (answer_text answer) (answer_status answer)) }
-    ensures kept { (name : List ℕ) → F.held files.new name ≡ F.held files.old name }
-{
-    match files.read(alloc, request.script(), MOST_BYTES) {
-        Ok(bytes) => answer_of_text(alloc, request, bytes.as_slice()),
-        Err(ReadRefusal::TooLarge) => Ok(Answer::Text("too large\n", Status::TooLarge)),
-        Err(ReadRefusal::Failed) => Ok(Answer::Text("read fault\n", Status::ReadFault)),
-        Err(ReadRefusal::Memory) => Err(Memory),
-    }
-}
-
-/// What a call has to write that asks so of a text within the size.
-fn answer_of_text(alloc: Global, request: &Request, bytes: &[u8]) -> Result<Answer, Memory>
     requires { length bytes.now ≤ 16777216 }
     ensures { IfOk result (λ answer.
         Answers bytes.now (command_of request.now) (answer_text answer) (answer_status answer)) }

@@ -1,13 +1,18 @@
-//! The top call, `run_one_call`: from the words of a command line to the bytes of a report.
+//! The top calls: from the words of a command line to the bytes of a report.
 //!
-//! It asks `script_tree` for the program that the script is, or its first fault. A run opens a port,
-//! has `mux_one` run all fibers to their ends on it (`run`), and has `pic_report` write the report
-//! (`report`); to show a script it asks `script_tree` again. It stands on `pic_machine` for worlds and
-//! legal histories, on `port_plain` for the port, on `fiber_body` for what statements mean, on
-//! `fiber_poll` for which forms are run so far, on `pic_report` for the report, on `script_tree` for the grammar and the canonical
-//! text, and on `pic_io` for files and the sink. `specs/` has the definitions that its contract cites:
-//! which histories are runs (`Run`), the words (`Request`), what is refused (`Refusal`), the statuses
-//! (`Status`), and the promise itself (`Headline`, `Due`). The program uses that one contract.
+//! - `run_to_end` does what the words ask for, and hands all that it wrote on to a sink. The program is
+//!   this call.
+//! - `run_one_call` does the same, and puts each piece to the sink as it comes.
+//! - `answer_script` answers a request on the bytes of a script, without files: both others go through
+//!   it.
+//!
+//! A run parses the script (`script_tree`), opens a port, has `mux_one` run all fibers to their ends on
+//! it (`run`), and has `pic_report` write the report (`report`).
+//!
+//! `specs/` has the definitions that the contracts cite: what the words ask for (`Request`), which text
+//! is due with which status (`Due`), what a call promises of it (`Promise`), the headline of a run
+//! (`Headline`), which histories are runs (`Run`), what is refused (`Refusal`), the statuses (`Status`),
+//! and the limits (`Limits`).
 #![tactic(auto)]
 
 mod answer;
@@ -17,14 +22,16 @@ mod limits;
 mod report;
 mod request;
 mod run;
+mod script_call;
 mod status;
+mod to_end;
 
 pub use call::run_one_call;
 pub use limits::{LIMITS, MOST_BYTES};
 pub use request::{Mode, Request, RequestRefusal, request_of};
+pub use script_call::answer_script;
 pub use status::Status;
+pub use to_end::run_to_end;
 
-#[cfg(test)]
-mod flag_tests;
 #[cfg(test)]
 mod tests;

@@ -1,7 +1,6 @@
 -- Which lines may stand in what is open.
-use Rattle.std.proofs.Common.{◌≡◌, ℕ, ◌<◌, Bool, true, false, cond, not, ◌&&◌, ◌||◌, nat_le, Option, Some, None, Result, Ok, Err, List, ◌⊎◌, inl, inr, refl, subst}
+use Rattle.std.proofs.Common.{◌≡◌, ℕ, ◌<◌, Bool, true, false, cond, not, ◌&&◌, ◌||◌, nat_le, Some, None, Ok, List, ◌⊎◌, inl, inr, refl, subst}
 use Rattle.std.proofs.lemmas.Bool.{leb-false}
-use Rattle.script_tree.specs.declared.cause.Cause.{Cause}
 use Rattle.script_tree.specs.declared.cause.Cause.TheVariants as cause
 use Rattle.script_tree.specs.declared.form.Form.{Form}
 use Rattle.script_tree.specs.declared.form.Form.TheVariants as form

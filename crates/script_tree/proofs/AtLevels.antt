@@ -22,7 +22,7 @@ use Rattle.script_tree.specs.Levels.{Levels, IsAt, IsShallow, AreEventsAt, StmtS
 use Rattle.script_tree.specs.Lines.{basic_form_made, comp_form_made, object_form_made, fiber_form_made, event_form_made}
 use Rattle.script_tree.specs.Parts.{Part}
 use Rattle.script_tree.specs.Reading.{State, outermost, inside, is_deep, is_bundle, bundle_count, holds_statements}
-use Rattle.script_tree.proofs.Moves.{is_break, IsStated, basic, on_comps, on_objects, on_fibers, opens_block, IsBlock, a_block, IsSelect, a_select, IsGroup, a_group, Becomes, a_then, an_else, a_loop, a_handler, a_forbid, a_permit, an_under, a_link, a_protect, a_bundle, a_flock, Groups, a_choose, a_wrap, a_guard, Ends, a_text, the_main}
+use Rattle.script_tree.proofs.Moves.{is_break, IsStated, basic, on_comps, on_objects, on_fibers, opens_block, IsBlock, a_block, IsSelect, a_select, IsGroup, a_group, Becomes, a_then, an_else, a_handler, Groups, a_choose, Ends, a_text, the_main}
 
 -- ---- statements that are lines
 

@@ -9,7 +9,7 @@ use Rattle.script_tree.specs.declared.program.Stmt.{Stmt}
 use Rattle.script_tree.specs.declared.program.Stmt.TheVariants as stmt
 use Rattle.script_tree.specs.Canon.{opening, ending, event_text, events_text, stmts_text, stmt_text, block_text}
 use Rattle.script_tree.specs.Parts.{Part, name_part}
-use Rattle.script_tree.specs.Reading.{State, Frame, closed, part_begun, left, with_stmt, with_event, is_group, holds_statements}
+use Rattle.script_tree.specs.Reading.{State, Frame, part_begun, left, with_stmt, with_event, is_group, holds_statements}
 use Rattle.script_tree.specs.Spelling.{line_text}
 use Rattle.script_tree.specs.Tree.{Tree}
 use Rattle.script_tree.proofs.Descending.{descends_less}

@@ -13,7 +13,7 @@ use Rattle.script_tree.specs.Reading.{State, counted, is_kind_full}
 use Rattle.script_tree.specs.WellFormed.{how_many}
 use Rattle.script_tree.proofs.Mains.{main_count, TextsMove, same_texts, a_fiber, main_begun, file_mains}
 use Rattle.script_tree.proofs.Nesting.{IsNested}
-use Rattle.script_tree.proofs.Moves.{Moves, declares, begins_fiber, begins_main, states, adds_leaf, opens, opens_select, opens_group, begins_else, begins_catch, ends_text, ends_block, ends_select, ends_group}
+use Rattle.script_tree.proofs.Moves.{Moves, declares, begins_fiber, begins_main, states, adds_leaf, opens, opens_select}
 
 -- ---- declarations
 

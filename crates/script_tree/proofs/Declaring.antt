@@ -1,5 +1,5 @@
 -- The names of declarations are names, texts have their blocks, and the last text is main's.
-use Rattle.std.proofs.Common.{◌≡◌, ◌<◌, ◌≤◌, ◌∙◌, IsTrue, List, [], ◌∷◌, ◌++◌, length, codes, arith, length-append, refl, sym, not-suc-le-zero}
+use Rattle.std.proofs.Common.{◌≡◌, ◌≤◌, ◌∙◌, List, [], ◌∷◌, ◌++◌, length, codes, arith, length-append, refl, sym, not-suc-le-zero}
 use Rattle.std.specs.List.{AllByRecursion}
 use Rattle.script_tree.specs.declared.form.DeclForm.{DeclForm}
 use Rattle.script_tree.specs.declared.form.DeclForm.TheVariants as decl_form

@@ -6,7 +6,7 @@ use Rattle.script_tree.specs.declared.program.Stmt.{Stmt}
 use Rattle.script_tree.specs.declared.form.GroupForm.TheVariants as group_form
 use Rattle.script_tree.specs.Lines.{number_in, part_at}
 use Rattle.script_tree.specs.Reading.{State, Frame, holds_statements, frame, outermost, inside}
-use Rattle.script_tree.proofs.Moves.{Moves, declares, begins_fiber, begins_main, states, adds_leaf, opens, opens_select, opens_group, begins_else, begins_catch, ends_text, ends_block, ends_select, ends_group, IsSelect, a_select, IsGroup, a_group, Ends, a_text, the_main}
+use Rattle.script_tree.proofs.Moves.{Moves, begins_fiber, begins_main, opens, opens_select, opens_group, begins_else, begins_catch, ends_text, ends_block, ends_select, ends_group, IsSelect, a_select, IsGroup, a_group, Ends, a_text, the_main}
 use Rattle.script_tree.proofs.Moving.{moves}
 use Rattle.script_tree.proofs.Pathways.{path_nested}
 use Rattle.script_tree.proofs.Paths.{Path, begin, more, open_blocks, Descends, BlocksDescend}

@@ -19,7 +19,7 @@ use Rattle.script_tree.specs.Reading.{State}
 use Rattle.script_tree.specs.Words.{class}
 use Rattle.script_tree.specs.WellFormed.{AreDistinct}
 use Rattle.script_tree.proofs.Lasting.{all_push}
-use Rattle.script_tree.proofs.Moves.{Moves, declares, begins_fiber, begins_main, states, adds_leaf, opens, opens_select, opens_group, begins_else, begins_catch, ends_text, ends_block, ends_select, ends_group}
+use Rattle.script_tree.proofs.Moves.{Moves, declares, begins_fiber}
 
 -- ---- new names
 

@@ -19,7 +19,7 @@ use Rattle.script_tree.specs.Parts.{Part}
 use Rattle.script_tree.specs.Reading.{State, Frame, is_group, holds_events}
 use Rattle.script_tree.specs.Tree.{Tree}
 use Rattle.script_tree.proofs.Lasting.{all_push}
-use Rattle.script_tree.proofs.Moves.{Moves, declares, begins_fiber, begins_main, states, adds_leaf, opens, opens_select, opens_group, begins_else, begins_catch, ends_text, ends_block, ends_select, ends_group, IsStated, basic, on_comps, on_objects, on_fibers, Becomes, a_then, an_else, a_loop, a_handler, a_forbid, a_permit, an_under, a_link, a_protect, a_bundle, a_flock}
+use Rattle.script_tree.proofs.Moves.{Moves, declares, states, adds_leaf, opens_select, opens_group, begins_else, begins_catch, ends_text, ends_block, ends_select, ends_group, IsStated, basic, on_comps, on_objects, on_fibers, Becomes, a_then}
 use Rattle.script_tree.proofs.Selecting.{LeavesCounted, CountsIn, LeavesIn}
 
 -- it holds of all statements so far

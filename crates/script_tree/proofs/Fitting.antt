@@ -1,5 +1,5 @@
 -- What is read where a shape is wanted fits the shape, in each tree in which the names stand for what they should.
-use Rattle.std.proofs.Common.{◌≡◌, ℕ, ◌^◌, ◌<◌, ◌∙◌, Bool, true, false, cond, ◌||◌, ◌==◌, IsTrue, Option, Some, None, Result, Ok, Err, List, [], ◌∷◌, drop, slice_get, nat_lt, if◌then◌else◌, refl, sym, ap, subst}
+use Rattle.std.proofs.Common.{◌≡◌, ℕ, ◌^◌, ◌<◌, Bool, true, false, cond, ◌||◌, ◌==◌, IsTrue, Option, Some, None, Result, Ok, Err, List, [], ◌∷◌, drop, slice_get, nat_lt, refl, subst}
 use Rattle.std.proofs.lemmas.Bool.{false≢true, ltb-true, eqb-true}
 use Rattle.std.specs.List.{AllByRecursion}
 use Rattle.std.specs.Str.{bytes_eq}
@@ -17,7 +17,6 @@ use Rattle.script_tree.specs.declared.thing.Sort.{Sort}
 use Rattle.script_tree.specs.declared.thing.Sort.TheVariants as sort
 use Rattle.script_tree.specs.declared.thing.Thing.{Thing}
 use Rattle.script_tree.specs.declared.thing.Thing.TheVariants as thing
-use Rattle.script_tree.specs.Lines.{number_in, operand_in, comp_in, test_in, name_in}
 use Rattle.script_tree.specs.Names.{Named, thing_of, sort_of, sort_number}
 use Rattle.script_tree.specs.Parts.{Part, number_part, operand_part, comp_part, test_part, name_part, Shape, a_register, a_value, a_number, a_key, a_promise, a_comp, a_test, a_new_name, a_fillable, a_place, comp_named, place_named, new_name, test_read, class_read, word_read}
 use Rattle.script_tree.specs.Tree.{Tree}

@@ -1,7 +1,6 @@
 -- What is open holds what fits, and becomes a statement or an event that fits.
 use Rattle.std.proofs.Common.{◌≡◌, ℕ, ◌<◌, true, List, [], ◌∷◌, refl, sym, subst}
 use Rattle.std.specs.List.{AllByRecursion}
-use Rattle.std.proofs.lemmas.Bool.{false≢true}
 use Rattle.script_tree.specs.declared.form.BlockForm.{BlockForm}
 use Rattle.script_tree.specs.declared.form.BlockForm.TheVariants as block_form
 use Rattle.script_tree.specs.declared.form.GroupForm.TheVariants as group_form
@@ -14,7 +13,7 @@ use Rattle.script_tree.specs.Parts.{Part}
 use Rattle.script_tree.specs.Reading.{State, Frame, is_group}
 use Rattle.script_tree.specs.Tree.{Tree}
 use Rattle.script_tree.specs.WellFormed.{IsInner, IsEvent, StmtFits, EventFits, OpenerFits, MembersFit}
-use Rattle.script_tree.proofs.Moves.{opens_block, IsBlock, a_block, IsSelect, a_select, IsGroup, a_group, Becomes, a_then, an_else, a_loop, a_handler, a_forbid, a_permit, an_under, a_link, a_protect, a_bundle, a_flock, Groups, a_choose, a_wrap, a_guard, Ends, a_text, the_main}
+use Rattle.script_tree.proofs.Moves.{IsBlock, a_block, IsSelect, a_select, IsGroup, a_group, Becomes, a_then, an_else, a_handler, an_under, a_link, a_protect, Groups, a_choose, a_wrap, a_guard, Ends, a_text, the_main}
 
 -- what is open inside the block at the place `holder` has parts that fit, and first parts that stand behind that block
 abbrev pub OpenFits : Tree → ℕ → Opener → Type 0

@@ -7,7 +7,7 @@ use Rattle.script_tree.specs.declared.program.EventTree.{EventTree}
 use Rattle.script_tree.specs.declared.program.EventTree.TheVariants as event
 use Rattle.script_tree.specs.Reading.{State, Frame, is_group, frame, inside}
 use Rattle.script_tree.proofs.Descending.{descends_up, descends_less}
-use Rattle.script_tree.proofs.Moves.{Moves, declares, begins_fiber, begins_main, states, adds_leaf, opens, opens_select, opens_group, begins_else, begins_catch, ends_text, ends_block, ends_select, ends_group, opens_block, IsBlock, a_block, IsSelect, a_select, Ends, a_text, the_main}
+use Rattle.script_tree.proofs.Moves.{Moves, adds_leaf, opens, opens_select, opens_group, begins_else, begins_catch, ends_text, ends_block, ends_select, ends_group, opens_block, IsBlock, a_block, IsSelect, a_select, Ends, a_text, the_main}
 use Rattle.script_tree.proofs.Moving.{moves}
 use Rattle.script_tree.proofs.Pathways.{path_nested}
 use Rattle.script_tree.proofs.Paths.{Path, begin, more, Descends}

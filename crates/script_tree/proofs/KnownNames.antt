@@ -14,7 +14,7 @@ use Rattle.script_tree.specs.Reading.{State, is_head, holds_statements, holds_ev
 use Rattle.script_tree.specs.WellFormed.{AreDistinct, names}
 use Rattle.script_tree.proofs.Distinct.{bytes_of, second_last}
 use Rattle.script_tree.proofs.Mains.{main_count, TextsMove, same_texts, a_fiber, main_begun, file_mains}
-use Rattle.script_tree.proofs.Moves.{Moves, declares, begins_fiber, begins_main, states, adds_leaf, opens, opens_select, opens_group, begins_else, begins_catch, ends_text, ends_block, ends_select, ends_group, opens_block, IsBlock, a_block, IsSelect, a_select, IsGroup, a_group, Ends, a_text, the_main}
+use Rattle.script_tree.proofs.Moves.{Moves, declares, begins_fiber, begins_main, states, adds_leaf, opens, opens_select, opens_group, ends_text, ends_block, ends_select, ends_group, opens_block, IsBlock, a_block, IsSelect, a_select, IsGroup, a_group, Ends, a_text, the_main}
 use Rattle.script_tree.proofs.Nesting.{IsNested, takes_texts}
 
 -- ---- declarations come first

@@ -15,7 +15,7 @@ use Rattle.script_tree.specs.Tree.{Tree}
 use Rattle.script_tree.specs.WellFormed.{IsOfSort}
 use Rattle.script_tree.proofs.Fitting.{PlaceFits, ThingFits, NamesFit}
 use Rattle.script_tree.proofs.Mains.{main_count, TextsMove, same_texts, a_fiber, main_begun, texts_move, file_mains}
-use Rattle.script_tree.proofs.Moves.{Moves, declares, begins_fiber, begins_main, states, adds_leaf, opens, opens_select, opens_group, begins_else, begins_catch, ends_text, ends_block, ends_select, ends_group}
+use Rattle.script_tree.proofs.Moves.{Moves, declares, begins_fiber, states, adds_leaf, opens_select, opens_group, begins_else, begins_catch, ends_text, ends_block, ends_select, ends_group}
 use Rattle.script_tree.proofs.Nesting.{IsNested}
 
 -- the tree has the declarations of a state, and as many texts, blocks and events; it has one text more than

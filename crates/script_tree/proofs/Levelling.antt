@@ -6,7 +6,7 @@ use Rattle.script_tree.specs.Levels.{Levels, IsAt}
 use Rattle.script_tree.specs.Lines.{event_form_made}
 use Rattle.script_tree.specs.Reading.{State, outermost, inside}
 use Rattle.script_tree.proofs.Lasting.{at_end}
-use Rattle.script_tree.proofs.Moves.{Moves, declares, begins_fiber, begins_main, states, adds_leaf, opens, opens_select, opens_group, begins_else, begins_catch, ends_text, ends_block, ends_select, ends_group}
+use Rattle.script_tree.proofs.Moves.{Moves, begins_fiber, begins_main, adds_leaf, opens, opens_group, begins_else, begins_catch, ends_text, ends_block, ends_group}
 
 -- ---- the levels of what was read
 

@@ -24,7 +24,7 @@ use Rattle.script_tree.specs.Lines.{line_made}
 use Rattle.script_tree.specs.Parts.{Part, words_read}
 use Rattle.script_tree.specs.Reading.{State, Frame, start, after, left, closed, fits, with_stmt, limit_broken, is_over, is_head, is_between, holds_events, part_begun}
 use Rattle.script_tree.specs.Tree.{Tree}
-use Rattle.script_tree.proofs.Moves.{Moves, declares, begins_fiber, begins_main, states, adds_leaf, opens, opens_select, opens_group, begins_else, begins_catch, ends_text, ends_block, ends_select, ends_group, IsBlock, a_block, IsSelect, a_select, IsGroup, a_group, opens_block, Ends, a_text, the_main}
+use Rattle.script_tree.proofs.Moves.{Moves, declares, states, adds_leaf, opens, opens_select, opens_group, begins_else, ends_text, ends_block, ends_select, ends_group, IsBlock, a_block, IsSelect, a_select, IsGroup, a_group, opens_block, Ends, a_text, the_main}
 use Rattle.script_tree.proofs.Moving.{moves}
 use Rattle.script_tree.proofs.Keeping.{moves_nested}
 use Rattle.script_tree.proofs.Nesting.{Nested, IsNested, is_file}

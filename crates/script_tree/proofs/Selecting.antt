@@ -1,5 +1,5 @@
 -- A select has no more events than it may have.
-use Rattle.std.proofs.Common.{◌≡◌, ℕ, ◌+◌, ◌<◌, ◌≤◌, Bool, true, false, Some, None, List, [], ◌∷◌, ◌++◌, length, set, slice_get, arith, not-suc-le-zero, refl, sym, subst}
+use Rattle.std.proofs.Common.{◌≡◌, ℕ, ◌+◌, ◌≤◌, Bool, true, false, Some, None, List, [], ◌∷◌, ◌++◌, length, set, slice_get, arith, refl, sym, subst}
 use Rattle.std.proofs.lemmas.Bool.{false≢true, leb-false}
 use Rattle.script_tree.specs.declared.counts.Counts.{Counts}
 use Rattle.script_tree.specs.declared.form.EventForm.{EventForm}
@@ -16,7 +16,7 @@ use Rattle.script_tree.specs.Parts.{Part}
 use Rattle.script_tree.specs.Reading.{State, Frame, is_group, holds_statements, holds_events, counted, with_event}
 use Rattle.script_tree.specs.Tree.{Tree}
 use Rattle.script_tree.proofs.Groups.{open_groups, GroupsDescend, inner_group}
-use Rattle.script_tree.proofs.Moves.{Moves, declares, begins_fiber, begins_main, states, adds_leaf, opens, opens_select, opens_group, begins_else, begins_catch, ends_text, ends_block, ends_select, ends_group, opens_block, IsBlock, a_block, IsSelect, a_select, IsGroup, a_group as a_group_opens, Groups, a_choose, a_wrap, a_guard, Ends, a_text, the_main}
+use Rattle.script_tree.proofs.Moves.{Moves, declares, begins_fiber, begins_main, states, adds_leaf, opens, opens_select, opens_group, begins_else, begins_catch, ends_text, ends_block, ends_select, ends_group, opens_block, IsBlock, a_block, IsSelect, a_select, IsGroup, a_group as a_group_opens, Groups, a_choose, Ends, a_text, the_main}
 use Rattle.script_tree.proofs.Moving.{groups_are}
 use Rattle.script_tree.proofs.Paths.{Descends}
 use Rattle.script_tree.proofs.Settled.{Settles}

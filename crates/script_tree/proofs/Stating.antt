@@ -1,6 +1,6 @@
 -- A script has no more statements than it may have.
-use Rattle.std.proofs.Common.{◌≡◌, ℕ, zero, suc, ◌+◌, ◌≤◌, ◌∙◌, true, false, nat_le, List, [], ◌∷◌, ◌++◌, length, set, flat_map, arith, length-append, refl, ap}
-use Rattle.std.proofs.lemmas.Bool.{false≢true, leb-false}
+use Rattle.std.proofs.Common.{◌≡◌, ℕ, zero, suc, ◌+◌, ◌≤◌, ◌∙◌, false, nat_le, List, [], ◌∷◌, ◌++◌, length, set, flat_map, arith, length-append, refl, ap}
+use Rattle.std.proofs.lemmas.Bool.{leb-false}
 use Rattle.std.proofs.lemmas.Grind.{flat_map-append}
 use Rattle.script_tree.specs.declared.counts.Counts.{Counts}
 use Rattle.script_tree.specs.declared.form.BlockForm.{BlockForm}
@@ -15,7 +15,7 @@ use Rattle.script_tree.specs.declared.program.Stmt.TheVariants as stmt
 use Rattle.script_tree.specs.Lines.{number_in, part_at, kind_made, block_form_made}
 use Rattle.script_tree.specs.Parts.{Part}
 use Rattle.script_tree.specs.Reading.{State, Frame, frame, inside, part_begun, counted}
-use Rattle.script_tree.proofs.Moves.{Moves, declares, begins_fiber, begins_main, states, adds_leaf, opens, opens_select, opens_group, begins_else, begins_catch, ends_text, ends_block, ends_select, ends_group, opens_block, IsBlock, a_block, IsSelect, a_select, IsGroup, a_group, Becomes, a_then, an_else, a_loop, a_handler, a_forbid, a_permit, an_under, a_link, a_protect, a_bundle, a_flock, Ends, a_text, the_main}
+use Rattle.script_tree.proofs.Moves.{Moves, declares, begins_fiber, begins_main, states, adds_leaf, opens, opens_select, opens_group, begins_else, begins_catch, ends_text, ends_block, ends_select, ends_group, IsBlock, a_block, IsSelect, a_select, IsGroup, a_group, Becomes, a_then, Ends, a_text, the_main}
 
 -- a block or select that is open is a statement when it ends
 abbrev pub becomes_one : Opener → ℕ

@@ -89,8 +89,7 @@ module _ (script : Tree) (origin : Origin) (hs : List Happened) (traced with_log
       } in
       let told = comp_told origin hs c is.legal runs in
       let both : Some state ≡ Some told.state = sym there ∙ told.there in
-      let same : state ≡ told.state = cc in
-      (
+      let same : state ≡ told.state = cc in (
         ap outcome_of same ∙ told.is,
         all_tell c hs (comp_once origin hs c is.legal runs) view.fibers.items view.clock_entries.items logs_are is.clock (λ x made. let within = completer_made origin hs c x is.legal made in omega (arith, within, is.count)),
       )

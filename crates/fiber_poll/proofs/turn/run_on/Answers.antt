@@ -37,6 +37,6 @@ loop-outcome-smaller g c = subst (IsStep c.loop-outcome.body c.run_block.new.bod
 pub loop-outcome-preserved : goal.loop-outcome-preserved
 loop-outcome-preserved g c = (
   on_trans (g.P.Port.sight c.args.port.now) (g.P.Port.sight c.loop-outcome.port) (g.P.Port.sight c.run_block.new.port) c.args.body.now c.loop-outcome.body c.run_block.new.body
-    (g.R.ReadyLine.told c.args.line.now) (g.R.ReadyLine.told c.loop-outcome.line) (g.R.ReadyLine.told c.run_block.new.line) c.loop-outcome.invariant.0 c.run_block.ensures.on,
+      (g.R.ReadyLine.told c.args.line.now) (g.R.ReadyLine.told c.loop-outcome.line) (g.R.ReadyLine.told c.run_block.new.line) c.loop-outcome.invariant.0 c.run_block.ensures.on,
   c.in_ok-last-in-At.ensures.calm ∙ c.loop-outcome.invariant.1,
 )

@@ -2,9 +2,9 @@
 use Rattle.std.proofs.Common.{◌≡◌, ℕ, ◌<◌, ◌==◌, cond, Bool, true, false, Option, Some, None, List, [], ◌∷◌, ◌++◌, length, refl, sym, subst, append_assoc}
 use Rattle.pic_machine.specs.declared.birth.Birth.{Birth}
 use Rattle.pic_machine.specs.declared.entry.Call.{Call}
-use Rattle.pic_machine.specs.declared.entry.Call.TheVariants.{Turn, Yield, Complete, Peek, Fork, Say, End}
+use Rattle.pic_machine.specs.declared.entry.Call.TheVariants.{Fork}
 use Rattle.pic_machine.specs.declared.entry.Reply.{Reply}
-use Rattle.pic_machine.specs.declared.entry.Reply.TheVariants.{Plain, Full, Made, Completed, Peeked}
+use Rattle.pic_machine.specs.declared.entry.Reply.TheVariants.{Made}
 use Rattle.pic_machine.specs.Happened.{Happened}
 use Rattle.pic_machine.specs.State.{State}
 use Rattle.pic_machine.specs.History.{BirthFits, IsLegal, Origin, birth_among, birth_at, birth_in, made_birth, or_later, world}
@@ -12,29 +12,20 @@ use Rattle.pic_machine.proofs.Comps.{comps_stay}
 
 -- the birth that stands beside an entry
 birth_beside : (w : State) (call : Call) (g : ℕ) (birth : Birth) → BirthFits w call (Made g) (Some birth) → birth.current < length w.comps
-birth_beside w Turn g birth fits = absurd cc
-birth_beside w Yield g birth fits = absurd cc
-birth_beside w (Complete c o) g birth fits = absurd cc
-birth_beside w (Peek c) g birth fits = absurd cc
 birth_beside w (Fork text value) g birth fits =
     let is : Some birth ≡ Some fits.of_child = fits.is in
     let same : birth ≡ fits.of_child = cc in
     subst (λ (b : Birth). b.current < length w.comps) (sym same) fits.stands
-birth_beside w (Say v) g birth fits = absurd cc
-birth_beside w (End o) g birth fits = absurd cc
+birth_beside w _ g birth fits = absurd cc
 
 chosen : (b : Bool) (birth child : Birth) → cond b (Some birth) None ≡ Some child → birth ≡ child
 chosen true birth child is = cc
 chosen false birth child is = absurd cc
 
 birth_stands : (w : State) (call : Call) (reply : Reply) (birth : Option Birth) (f : ℕ) (child : Birth) → BirthFits w call reply birth → made_birth reply birth f ≡ Some child → child.current < length w.comps
-birth_stands w call Plain birth f child fits is = absurd cc
-birth_stands w call Full birth f child fits is = absurd cc
-birth_stands w call (Made g) None f child fits is = absurd cc
 birth_stands w call (Made g) (Some birth) f child fits is =
     subst (λ (b : Birth). b.current < length w.comps) (chosen (g == f) birth child is) (birth_beside w call g birth fits)
-birth_stands w call (Completed how) birth f child fits is = absurd cc
-birth_stands w call (Peeked seen) birth f child fits is = absurd cc
+birth_stands w call _ _ f child fits is = absurd cc
 
 module _ (origin : Origin) (f : ℕ) (child : Birth) where
   abbrev IsWithin : Type 0

@@ -10,7 +10,7 @@ use Rattle.script_tree.specs.Levels.{AreLevels, IsAt, IsElseAt, Levels, StmtStan
 use Rattle.script_tree.specs.Reading.{inside, outermost}
 use Rattle.script_tree.specs.Tree.{Tree}
 use Rattle.script_tree.specs.WellFormed.{IsWellFormed}
-use Rattle.fiber_body.specs.Meaning.{Context, Does, Exit, Loops, Runs, block_at, broke, else_at, set_next, add_next, add_raised, sub_next, sub_raised, mul_next, mul_raised, put_next, get_next, say_cut, say_next, return_cut, return_next, cancel_cut, cancel_next, peek_cut, peek_next, yield_cut, yield_next, spawn_cut, spawn_next, spawn_full, raise_raised, break_broke, if_then, if_else, loop_loops, try_passed, try_caught, loop_cut, loop_spent, loop_again, loop_broke, loop_left, done, waits, exhausted, more, leaves, PassesLoop}
+use Rattle.fiber_body.specs.Meaning.{Context, Does, Exit, Loops, Runs, block_at, broke, else_at, break_broke, if_then, if_else, loop_loops, try_passed, try_caught, loop_cut, loop_spent, loop_again, loop_broke, loop_left, more, leaves, PassesLoop}
 use Rattle.fiber_body.specs.Texts.{block_number, block_of}
 use Rattle.fiber_poll.proofs.Ranges.{one_of}
 
@@ -38,29 +38,6 @@ module _ (tree : Tree) (levels : Levels) (are : AreLevels tree levels) where
 
   mutual
     does_on : {f : ℕ} {s : Stmt} {c d : Context} {xs : List Happened} {x : Exit} (level : Level) → level.breaks ≡ false → StmtStands levels level s → Does tree.blocks f s c xs x d → x ≢ broke
-    does_on level never stands set_next = λ q. cc
-    does_on level never stands (add_next fits) = λ q. cc
-    does_on level never stands (add_raised above) = λ q. cc
-    does_on level never stands (sub_next fits) = λ q. cc
-    does_on level never stands (sub_raised above) = λ q. cc
-    does_on level never stands (mul_next fits) = λ q. cc
-    does_on level never stands (mul_raised above) = λ q. cc
-    does_on level never stands put_next = λ q. cc
-    does_on level never stands get_next = λ q. cc
-    does_on level never stands say_cut = λ q. cc
-    does_on level never stands say_next = λ q. cc
-    does_on level never stands return_cut = λ q. cc
-    does_on level never stands (return_next reply is) = λ q. cc
-    does_on level never stands cancel_cut = λ q. cc
-    does_on level never stands (cancel_next reply is) = λ q. cc
-    does_on level never stands peek_cut = λ q. cc
-    does_on level never stands (peek_next seen is) = λ q. cc
-    does_on level never stands yield_cut = λ q. cc
-    does_on level never stands yield_next = λ q. cc
-    does_on level never stands spawn_cut = λ q. cc
-    does_on level never stands (spawn_next g) = λ q. cc
-    does_on level never stands spawn_full = λ q. cc
-    does_on level never stands raise_raised = λ q. cc
     does_on level never stands break_broke = λ q. let yes : level.breaks ≡ true = stands in cc
     does_on level never stands (if_then {a = a} {b = b} {t = t} {p = p} holds runs) =
         runs_on (inside level (opener.Then a t b)) never (stands_at (inside level (opener.Then a t b)) p stands.0) runs
@@ -69,13 +46,12 @@ module _ (tree : Tree) (levels : Levels) (are : AreLevels tree levels) where
     does_on level never stands (loop_loops loops) = loops_on loops
     does_on level never stands (try_passed {p = p} runs passes) = runs_on (inside level opener.Try) never (stands_at (inside level opener.Try) p stands.0) runs
     does_on level never stands (try_caught {h = h} runs handles) = runs_on (inside level opener.Try) never (stands_at (inside level opener.Try) h stands.1) handles
+    does_on level never stands _ = λ q. cc
 
     runs_on : {f : ℕ} {ss : List Stmt} {c d : Context} {xs : List Happened} {x : Exit} (level : Level) → level.breaks ≡ false → AllByRecursion (StmtStands levels level) ss → Runs tree.blocks f ss c xs x d → x ≢ broke
-    runs_on level never stands done = λ q. cc
-    runs_on level never stands waits = λ q. cc
-    runs_on level never stands (exhausted costs none) = λ q. cc
     runs_on level never stands (more can does runs) = runs_on level never stands.1 runs
     runs_on level never stands (leaves can does apart) = does_on level never stands.0 does
+    runs_on level never stands _ = λ q. cc
 
   past_blocks : (blocks : List (List Stmt)) → block_at blocks (length blocks) ≡ []
   past_blocks [] = refl

@@ -52,5 +52,3 @@ pub use program::{
 };
 pub use refusal::{ParseRefusal, Refused};
 
-#[cfg(test)]
-mod tests;

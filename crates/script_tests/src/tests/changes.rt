@@ -1,5 +1,5 @@
 use super::{EVERY_FORM, count_lines, read, refused, shown};
-use crate::{ParseRefusal, Refused};
+use script_tree::{ParseRefusal, Refused};
 use std::test::Fail;
 
 /// Whether a text may be refused so: the causes that come at the end of a text have the number of

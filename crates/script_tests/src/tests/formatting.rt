@@ -1,5 +1,5 @@
 use super::{EVERY_FORM, read, shown};
-use crate::{most, parse, show};
+use script_tree::{most, parse, show};
 use std::alloc::{AllocError, Global};
 use std::test::Fail;
 

@@ -1,5 +1,5 @@
 //! Tests of `parse` and `show`.
-use super::*;
+use script_tree::{ParseRefusal, Program, Refused, parse, show};
 use std::alloc::Global;
 
 mod changes;

@@ -4,6 +4,7 @@ ghost use Rattle.std.specs.Prelude.{◌<◌};
 use super::*;
 use pic_io::{Gathered, MemFiles, MemSink};
 use std::alloc::Global;
+use std::process::Abort;
 use std::test::Fail;
 
 mod faults;
@@ -72,13 +73,13 @@ fn sink_of(alloc: Global, most: usize, failing: u64) -> Result<MemSink, Fail>
 /// Asserts what a call with these words answers and writes where `a` has this content, and that it
 /// reads that file and no other, once.
 fn expect_answer(
-    rt: &HostRuntime,
+    rt: &impl Abort,
+    alloc: Global,
     texts: &[&str],
     content: &str,
     status: Status,
     text: &str,
 ) -> Result<(), Fail> {
-    let alloc = rt.alloc();
     let words = words_of(alloc, texts)?;
     let mut files = file_a(alloc, content)?;
     let mut out = Gathered::new(alloc, MemSink::new(alloc));

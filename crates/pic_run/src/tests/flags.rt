@@ -81,7 +81,7 @@ fn traces_and_logs(rt: HostRuntime) -> Result<(), Fail> {
     ];
     for (texts, trace, fibers) in table {
         let text = format!(in rt.alloc(); "picos report 1\n{trace}{fibers}{LAST}")?;
-        expect_answer(&rt, texts, SCRIPT, Status::Done, text.as_str())?;
+        expect_answer(&rt, rt.alloc(), texts, SCRIPT, Status::Done, text.as_str())?;
     }
     Ok(())
 }

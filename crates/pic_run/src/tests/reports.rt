@@ -85,7 +85,14 @@ end
         ),
     ];
     for (script, text) in table {
-        expect_answer(&rt, &["run", "a", "b"], script, Status::Done, text)?;
+        expect_answer(
+            &rt,
+            rt.alloc(),
+            &["run", "a", "b"],
+            script,
+            Status::Done,
+            text,
+        )?;
     }
     Ok(())
 }
@@ -109,7 +116,14 @@ fn refuses(rt: HostRuntime) -> Result<(), Fail> {
         ),
     ];
     for (script, text) in table {
-        expect_answer(&rt, &["run", "a", "b"], script, Status::Refused, text)?;
+        expect_answer(
+            &rt,
+            rt.alloc(),
+            &["run", "a", "b"],
+            script,
+            Status::Refused,
+            text,
+        )?;
     }
     Ok(())
 }
@@ -137,7 +151,7 @@ fn checks_and_shows(rt: HostRuntime) -> Result<(), Fail> {
         ),
     ];
     for (texts, script, status, text) in table {
-        expect_answer(&rt, texts, script, status, text)?;
+        expect_answer(&rt, rt.alloc(), texts, script, status, text)?;
     }
     Ok(())
 }

@@ -27,7 +27,14 @@ fn too_many_fibers(alloc: Global) -> Result<(String, String), Fail> {
 fn main_is_cancelled(rt: HostRuntime) -> Result<(), Fail> {
     let (script, report) = too_many_fibers(rt.alloc())?;
     let (script, report) = (script.as_str(), report.as_str());
-    expect_answer(&rt, &["run", "a", "b"], script, Status::Raised, report)
+    expect_answer(
+        &rt,
+        rt.alloc(),
+        &["run", "a", "b"],
+        script,
+        Status::Raised,
+        report,
+    )
 }
 
 /// The fibers and calls of a run of this script, in the order of happening; none where it isn't run.

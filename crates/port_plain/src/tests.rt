@@ -1,10 +1,9 @@
 //! Runs on the port, with a body that is its entries alone.
 ghost use Rattle.std.specs.Prelude.{◌≡◌, ◌≢◌, ◌-◌, ⊤, [], None, OnOk, vec_len, vec_capacity};
 ghost use Rattle.std.proofs.Common.{◌∙◌};
-ghost use Rattle.pic_machine.specs.History.{origin_of};
 ghost use Rattle.pic_machine.specs.Log.{visible};
 ghost use Rattle.pic_machine.specs.Sight.{Holds, fiber_of, nothing};
-ghost use Rattle.port_plain.specs.Shown.{sight_of};
+ghost use Rattle.port_plain.specs.Shown.{origin_in, sight_of};
 
 use super::PlainPort;
 use pic_base::{FiberNo, Limits, Memory, Outcome};
@@ -106,7 +105,8 @@ fn start() -> Start
 #[test]
 fn a_body_goes_out_and_comes_back(rt: HostRuntime) -> Result<(), Fail> {
     let main = Bare::new(rt.alloc(), 3, 0);
-    let clock = Bare::new(rt.alloc(), 0, 0);
+    let mut clock = Bare::new(rt.alloc(), 0, 0);
+    clock.number(0);
     let mut port = PlainPort::open(rt.alloc(), &start(), main, clock)?;
     assert!(rt; port.idle() == Ok(Idle::Busy));
     assert!(rt; matches!(port.claim(2), Err(ClaimRefusal::NotReady)));
@@ -138,7 +138,8 @@ fn end_fiber(port: &mut PlainPort<Bare>, body: Bare) -> Result<(), Memory>
     requires holds { Holds (sight_of ⟦<Bare as Carried>⟧.seen port.old) (⟦<Bare as Carried>⟧.seen body) }
     requires fiber { fiber_of (⟦<Bare as Carried>⟧.seen body) ≢ 0 }
     ensures out { OnOk result (port.new.out ≡ None) }
-    ensures origin { OnOk result (origin_of port.new.start ≡ origin_of port.old.start) }
+    ensures origin { OnOk result (origin_in ⟦<Bare as Carried>⟧.seen port.new
+        ≡ origin_in ⟦<Bare as Carried>⟧.seen port.old) }
 {
     let mut body = body;
     body.reserve()?;
@@ -151,7 +152,8 @@ fn end_fiber(port: &mut PlainPort<Bare>, body: Bare) -> Result<(), Memory>
 #[test]
 fn a_child_is_made_and_both_end(rt: HostRuntime) -> Result<(), Fail> {
     let main = Bare::new(rt.alloc(), 3, 0);
-    let clock = Bare::new(rt.alloc(), 0, 0);
+    let mut clock = Bare::new(rt.alloc(), 0, 0);
+    clock.number(0);
     let mut port = PlainPort::open(rt.alloc(), &start(), main, clock)?;
     let Ok(mut main) = port.claim(1) else {
         return Err(Memory.into());

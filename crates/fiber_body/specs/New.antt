@@ -5,7 +5,7 @@ use Rattle.script_tree.specs.Tree.{Tree}
 use Rattle.fiber_body.specs.declared.standing.Standing.TheVariants.{At}
 use Rattle.fiber_body.specs.Texts.{block_in}
 use Rattle.fiber_body.specs.Follows.{context_of}
-use Rattle.fiber_body.specs.Shown.{Shown, context_at}
+use Rattle.fiber_body.specs.Shown.{Shown}
 use Rattle.fiber_body.specs.Fits.{Fits}
 
 -- it stands at the beginning of its text; a fiber's body has no number yet, the clock's has 0
@@ -13,7 +13,7 @@ pub record IsNew (body : Shown) (program : Option Tree) (birth : Birth) (number 
   pub program_is : body.program ≡ program
   pub birth_is : body.birth ≡ birth
   pub number_is : body.number ≡ number
-  pub context : context_at body ≡ context_of birth
+  pub context : body.context ≡ context_of birth
   pub standing : body.standing ≡ At (block_in program birth.text) 0
   pub frames : body.frames ≡ []
   pub noted : body.noted ≡ []

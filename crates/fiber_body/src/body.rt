@@ -1,15 +1,17 @@
-ghost use Rattle.std.specs.Prelude.{◌≡◌, ◌<◌, ◌-◌, ◌∷◌, Some, None, IfOk, IfSome, OnOk, OnErr, length, slice_get, slice_index, slice_set, vec_len, vec_capacity};
+ghost use Rattle.std.specs.Prelude.{◌≡◌, ◌<◌, ◌-◌, ◌∷◌, Some, None, IfOk, IfSome, OnOk, OnErr, length, slice_get, slice_index, vec_len, vec_capacity};
 ghost use Rattle.std.specs.Option.{option_map};
 ghost use Rattle.std.specs.Arc.{arc_value};
+ghost use Rattle.script_tree.specs.WellFormed.{IsValue};
+ghost use Rattle.fiber_body.specs.Context.{value, with_register};
 ghost use Rattle.fiber_body.specs.New.{IsNew};
-ghost use Rattle.fiber_body.specs.Shown.{IsFrame, IsPopped};
+ghost use Rattle.fiber_body.specs.Shown.{IsFrame, IsPopped, stood};
 ghost use Rattle.fiber_body.specs.Texts.{block_in};
 
 use crate::standing::{Frame, Standing};
 use crate::texts::block_of;
 use pic_base::{CompNo, FiberNo, Memory, STEPS, Value};
 use pic_machine::{Birth, Entry};
-use script_tree::Program;
+use script_tree::{Operand, Program};
 use std::alloc::Global;
 use std::marker::Model;
 use std::sync::Arc;
@@ -27,8 +29,8 @@ pub(crate) struct Content {
     program: Option<Arc<Program>>,
     pub(crate) birth: Birth,
     pub(crate) number: Option<FiberNo>,
-    registers: [Value; 16],
-    cells: [Value; 16],
+    pub(crate) registers: [Value; 16],
+    pub(crate) cells: [Value; 16],
     steps: u32,
     standing: Standing,
     frames: Vec<Frame>,
@@ -47,9 +49,12 @@ impl Model for Body {
       program = option_map arc_value body.content.value.program;
       birth = body.content.value.birth;
       number = body.content.value.number;
-      registers = body.content.value.registers;
-      cells = body.content.value.cells;
-      steps = body.content.value.steps;
+      context = record {
+        registers = body.content.value.registers;
+        cells = body.content.value.cells;
+        steps = body.content.value.steps;
+        current = body.content.value.birth.current;
+      };
       standing = body.content.value.standing;
       frames = reverse body.content.value.frames.items;
       noted = body.content.value.noted.items;
@@ -134,9 +139,10 @@ impl Body {
         self.content.birth.text
     }
 
-    /// The current computation.
+    /// The current computation, which is still the one with which its fiber was made.
     pub fn current(&self) -> CompNo
-        ensures { result ≡ self.now.birth.current }
+        ensures current { result ≡ self.now.context.current }
+        ensures of_birth { result ≡ self.now.birth.current }
     {
         self.content.birth.current
     }
@@ -151,7 +157,7 @@ impl Body {
     /// The value of the register with this number.
     pub fn register(&self, place: u8) -> Value
         requires { place < 16 }
-        ensures { result ≡ slice_index self.now.registers place }
+        ensures { result ≡ slice_index self.now.context.registers place }
     {
         self.content.registers[place as usize]
     }
@@ -159,39 +165,27 @@ impl Body {
     /// Puts the value into the register with this number.
     pub fn set_register(&mut self, place: u8, value: Value)
         requires { place < 16 }
-        ensures { self.new ≡ record self.old { registers = slice_set self.old.registers place value } }
+        ensures { self.new ≡ record self.old { context = with_register self.old.context place value } }
     {
         self.content.registers[place as usize] = value;
     }
 
-    /// The value under the key with this number.
-    pub fn cell(&self, place: u8) -> Value
-        requires { place < 16 }
-        ensures { result ≡ slice_index self.now.cells place }
+    /// The value of an operand.
+    pub fn value(&self, operand: Operand) -> Value
+        requires { IsValue operand }
+        ensures { result ≡ value self.now.context operand }
     {
-        self.content.cells[place as usize]
-    }
-
-    /// Puts the value under the key with this number.
-    pub fn set_cell(&mut self, place: u8, value: Value)
-        requires { place < 16 }
-        ensures { self.new ≡ record self.old { cells = slice_set self.old.cells place value } }
-    {
-        self.content.cells[place as usize] = value;
+        match operand {
+            Operand::Reg(register) => self.register(register),
+            Operand::Num(value) => value,
+        }
     }
 
     /// How many steps it has left.
     pub fn steps(&self) -> u32
-        ensures { result ≡ self.now.steps }
+        ensures { result ≡ self.now.context.steps }
     {
         self.content.steps
-    }
-
-    /// Leaves it so many steps.
-    pub fn set_steps(&mut self, steps: u32)
-        ensures { self.new ≡ record self.old { steps = steps } }
-    {
-        self.content.steps = steps;
     }
 
     /// Where it stands in its text.
@@ -201,11 +195,12 @@ impl Body {
         self.content.standing
     }
 
-    /// Lets it stand there from now on.
-    pub fn set_standing(&mut self, standing: Standing)
-        ensures { self.new ≡ record self.old { standing = standing } }
+    /// Lets it stand there from now on, with so many steps left.
+    pub fn stand(&mut self, standing: Standing, steps: u32)
+        ensures { self.new ≡ stood self.old standing steps }
     {
         self.content.standing = standing;
+        self.content.steps = steps;
     }
 
     /// Puts a frame around the block in which it is to stand.

@@ -51,17 +51,13 @@ impl Carried for Body {
     ghost fits_fresh = { fits_fresh };
 
     ghost rest_same = { λ body. record {
-      registers = refl;
-      cells = refl;
-      steps = refl;
+      context = refl;
       standing = refl;
       frames = refl;
     } };
 
     ghost rest_after = { λ a b c one other. record {
-      registers = other.registers ∙ one.registers;
-      cells = other.cells ∙ one.cells;
-      steps = other.steps ∙ one.steps;
+      context = other.context ∙ one.context;
       standing = other.standing ∙ one.standing;
       frames = other.frames ∙ one.frames;
     } };

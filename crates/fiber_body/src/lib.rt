@@ -13,6 +13,7 @@
 
 mod body;
 mod carried;
+mod change;
 mod giving;
 mod numbering;
 mod standing;
@@ -20,8 +21,8 @@ mod start;
 mod texts;
 
 pub use body::Body;
-pub use numbering::number_of;
-pub use standing::{Frame, Standing};
+pub use numbering::Numbers;
+pub use standing::{Exit, Frame, Standing};
 pub use start::start_of;
 pub use texts::block_at;
 

@@ -1,6 +1,6 @@
 //! The texts of a program.
 ghost use Rattle.std.specs.Prelude.{◌≡◌, ◌<◌, ◌≤◌, length};
-ghost use Rattle.fiber_body.specs.Meaning.{block_at};
+ghost use Rattle.fiber_body.specs.Context.{block_at};
 ghost use Rattle.fiber_body.specs.Texts.{block_of, main_text};
 
 use script_tree::{Program, Stmt};

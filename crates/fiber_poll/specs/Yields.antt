@@ -1,97 +1,160 @@
 -- How often a fiber of a script may yield: each time by a statement, for which it has a step.
-use Rattle.std.proofs.Common.{◌≡◌, ◌≢◌, ℕ, ◌+◌, ◌≤◌, Option, Some, None, List, [], ◌∷◌, refl, sym, ap, subst, append-nil, arith}
-use Rattle.pic_base.specs.declared.outcome.Outcome.{Outcome}
+use Rattle.std.proofs.Common.{◌≡◌, ◌≢◌, ℕ, ◌+◌, ◌-◌, ◌≤◌, nat_lt, Bool, true, false, cond, Option, Some, None, List, [], ◌∷◌, refl, sym, ap, subst, arith}
 use Rattle.pic_base.specs.Steps.{most_steps}
-use Rattle.pic_machine.specs.declared.entry.Call.TheVariants as call
-use Rattle.pic_machine.specs.declared.entry.Reply.TheVariants.{Plain}
+use Rattle.pic_machine.specs.declared.entry.Call.{Call}
+use Rattle.pic_machine.specs.declared.entry.Call.TheVariants.{End, Yield}
+use Rattle.pic_machine.specs.declared.entry.Reply.{Reply}
+use Rattle.pic_machine.specs.declared.entry.Reply.TheVariants.{Completed, Full, Peeked}
 use Rattle.pic_machine.specs.Happened.{Happened}
-use Rattle.pic_machine.specs.History.{event}
-use Rattle.pic_machine.specs.Order.{yields}
+use Rattle.pic_machine.specs.Log.{own}
+use Rattle.pic_machine.specs.Order.{is_yield, yields}
 use Rattle.pic_machine.proofs.Turnings.{yields-append}
 use Rattle.script_tree.specs.declared.program.Stmt.{Stmt}
 use Rattle.script_tree.specs.declared.program.Stmt.TheVariants as stmt
-use Rattle.fiber_body.specs.declared.standing.Standing.{Standing}
-use Rattle.fiber_body.specs.declared.standing.Standing.TheVariants.{At, Leaving}
-use Rattle.fiber_body.specs.declared.standing.Frame.{Frame}
-use Rattle.fiber_body.specs.declared.standing.Frame.TheVariants.{Rest, Again, Catch}
-use Rattle.fiber_body.specs.Around.{Ahead, Around}
+use Rattle.script_tree.specs.Tree.{Tree}
+use Rattle.fiber_body.specs.declared.standing.Exit.{Exit}
+use Rattle.fiber_body.specs.declared.standing.Exit.TheVariants.{Next, Raised, Spent}
+use Rattle.fiber_body.specs.Around.{around_of, place_of}
+use Rattle.fiber_body.specs.Context.{Context, Setting}
+use Rattle.fiber_body.specs.Fits.{Fits, MayBeOf, setting_of}
 use Rattle.fiber_body.specs.Follows.{context_of}
-use Rattle.fiber_body.specs.Meaning.{CanBegin, Context, Does, Exit, Loops, Runs, begun, cut, waits, if_then, if_else, loop_loops, try_passed, try_caught, loop_again, loop_broke, loop_left, more, leaves}
-use Rattle.fiber_body.specs.Shown.{Shown, context_at}
-use Rattle.fiber_body.specs.Fits.{Fits, HasLeft, Leads, MayBeOf, Stands, before_end, behind_end, blocks_of, stmts_of_body}
+use Rattle.fiber_body.specs.Framing.{leads_segment}
+use Rattle.fiber_body.specs.Phases.{Phase, branches, calls, catching, ended, ending, ends, gone, lives, repeating, tries}
+use Rattle.fiber_body.specs.Segments.{Acts, CanBegin, Extent, Runs, and_more, and_out, begun, ends_so, goes, happens, leaves_it, makes, stops_inside}
+use Rattle.fiber_body.specs.Shown.{Shown}
+use Rattle.fiber_body.specs.Statements.{begins, born, replied}
+use Rattle.fiber_body.specs.Tables.{Settled, Work, asks, catches, closing, encloses, ends_by, ends_text, goes_into, leads, repeats, settles}
+use Rattle.fiber_body.specs.Texts.{block_in}
 
--- how often a statement may yield beyond the steps that it spends itself: once, for the step with which
--- it began
-abbrev allowance : Stmt → ℕ
-allowance (stmt.Loop block) = 0
-allowance _ = 1
+-- ---- the steps that are left
 
-begins : (s : Stmt) (c : Context) → CanBegin s c → allowance s + (begun s c).steps ≤ c.steps
-begins (stmt.Loop block) c can = omega arith
-begins _ c can = omega (arith, can)
+-- with which a phase ends, where it ends here
+abbrev steps_in : Phase → Context → ℕ
+steps_in (ended x d) c = d.steps
+steps_in p c = c.steps
+
+abbrev steps_of : Settled → ℕ
+steps_of (ends_by x d) = d.steps
+steps_of (goes_into b d) = d.steps
+steps_of (encloses k b d) = d.steps
+
+-- how often a phase may yield itself
+abbrev allowance : Phase → ℕ
+allowance (calls one) = 1
+allowance p = 0
+
+begins_within : (c : Context) (one : Stmt) → steps_in (begins c one) c ≤ c.steps
+begins_within c stmt.Break = omega arith
+begins_within c _ = omega arith
+
+begins_once : (c : Context) (one : Stmt) → CanBegin one c → allowance (begins (begun one c) one) + (begun one c).steps ≤ c.steps
+begins_once c (stmt.Loop block) can = omega arith
+begins_once c _ can = omega (arith, can)
+
+replied_within : (c : Context) (one : Stmt) (reply : Reply) → (allowance (replied c one reply) ≡ 0) × (steps_in (replied c one reply) c ≤ c.steps)
+replied_within c (stmt.Return r comp v) (Completed how) = omega arith
+replied_within c (stmt.Cancel r comp v) (Completed how) = omega arith
+replied_within c (stmt.Peek r q comp) (Peeked seen) = omega arith
+replied_within c (stmt.Spawn text v) Full = omega arith
+replied_within c _ _ = omega arith
+
+-- each row leaves no more steps than there were
+abbrev IsWithin : ℕ → Option Settled → Type 0
+IsWithin n None = Unit {0}
+IsWithin n (Some z) = steps_of z ≤ n
+
+next_within : (b : Bool) (block : ℕ) (c : Context) → IsWithin c.steps (Some (cond b (encloses (repeats block) block (record c { steps = c.steps - 1 })) (ends_by Spent c)))
+next_within true block c = omega arith
+next_within false block c = omega arith
+
+rows_within : (c : Context) (p : Phase) → IsWithin (steps_in p c) (settles c p)
+rows_within c (branches None) = omega arith
+rows_within c (branches (Some block)) = omega arith
+rows_within c (repeating block Next) = next_within (nat_lt 0 c.steps) block c
+rows_within c (repeating block exit) = omega arith
+rows_within c (tries block register handler) = omega arith
+rows_within c (catching register handler (Raised code)) = omega arith
+rows_within c (catching register handler exit) = omega arith
+rows_within c (lives block) = omega arith
+rows_within c (ending outcome gone) = omega arith
+rows_within c (ended exit d) = omega arith
+rows_within c _ = tt
+
+row_within : (c : Context) (p : Phase) (z : Settled) → settles c p ≡ Some z → steps_of z ≤ steps_in p c
+row_within c p z row = subst (IsWithin (steps_in p c)) row (rows_within c p)
+
+closing_within : (k : Work) (x : Exit) (c : Context) → (allowance (closing k x c) ≡ 0) × (steps_in (closing k x c) c ≡ c.steps)
+closing_within (repeats block) x c = (refl, refl)
+closing_within (catches register handler) x c = (refl, refl)
+closing_within ends_text x c = (refl, refl)
+
+-- ---- segments
+
+-- an entry is a yield at most where its phase may yield, and leaves the steps
+yields_call : (f : ℕ) (call : Call) (reply : Reply) (c : Context) (xs : List Happened) → yields (happens f call reply (born c call) ∷ xs) ≤ 1 + yields xs
+yields_call f Yield reply c xs = omega arith
+yields_call f _ reply c xs = omega arith
+
+entry_within : (s : Setting) (c : Context) (p q : Phase) (call : Call) (reply : Reply) (xs : List Happened) → asks s.script c p ≡ Some call → leads c p reply ≡ Some q
+    → (allowance q + yields (happens s.fiber call reply (born c call) ∷ xs) ≤ allowance p + yields xs) × (steps_in q c ≤ c.steps)
+entry_within s c (calls one) q call reply xs asked led =
+    let same : replied c one reply ≡ q = cc in
+    let few = subst (λ (r : Phase). (allowance r ≡ 0) × (steps_in r c ≤ c.steps)) same (replied_within c one reply) in
+    let one_more = yields_call s.fiber call reply c xs in
+    (omega (arith, few.0, one_more), few.1)
+entry_within s c (ending o ends) q call reply xs asked led =
+    let same : ending o gone ≡ q = cc in
+    let is : End o ≡ call = cc in
+    subst (λ (k : Call). (allowance q + yields (happens s.fiber k reply (born c k) ∷ xs) ≤ 0 + yields xs) × (steps_in q c ≤ c.steps)) is
+    (subst (λ (r : Phase). (allowance r + yields xs ≤ 0 + yields xs) × (steps_in r c ≤ c.steps)) same (omega arith, omega arith))
+entry_within s c p q call reply xs asked led = absurd cc
 
 mutual
-  does_few : {blocks : List (List Stmt)} {f : ℕ} {s : Stmt} {c d : Context} {xs : List Happened} {x : Exit} → Does blocks f s c xs x d → yields xs + d.steps ≤ allowance s + c.steps
-  does_few (if_then holds runs) = let few = runs_few runs in omega (arith, few)
-  does_few (if_else holds runs) = let few = runs_few runs in omega (arith, few)
-  does_few (loop_loops loops) = let few = loops_few loops in omega (arith, few)
-  does_few (try_passed runs passes) = let few = runs_few runs in omega (arith, few)
-  does_few (try_caught {xs = xs} {ys = ys} runs handles) =
-      let first = runs_few runs in
-      let rest = runs_few handles in
-      omega (arith, yields-append xs ys, first, rest)
-  does_few _ = omega arith
-
-  loops_few : {blocks : List (List Stmt)} {f : ℕ} {ss : List Stmt} {c d : Context} {xs : List Happened} {x : Exit} → Loops blocks f ss c xs x d → yields xs + d.steps ≤ c.steps
-  loops_few (loop_again {xs = xs} {ys = ys} some runs loops) =
-      let first = runs_few runs in
-      let rest = loops_few loops in
-      omega (arith, yields-append xs ys, first, rest, some)
-  loops_few (loop_broke some runs) = let few = runs_few runs in omega (arith, few, some)
-  loops_few (loop_left some runs passes) = let few = runs_few runs in omega (arith, few, some)
-  loops_few _ = omega arith
-
-  runs_few : {blocks : List (List Stmt)} {f : ℕ} {ss : List Stmt} {c d : Context} {xs : List Happened} {x : Exit} → Runs blocks f ss c xs x d → yields xs + d.steps ≤ c.steps
-  runs_few (more {s = s} {c = c} {xs = xs} {ys = ys} can does runs) =
-      let first = does_few does in
+  acts_few : {s : Setting} {p : Phase} {c d : Context} {xs : List Happened} {y : Extent} → Acts s p c xs y d → steps_in p c ≤ c.steps → yields xs + d.steps ≤ allowance p + c.steps
+  acts_few {s} (makes {p} {q} {c} {xs = xs} call reply asked led acts) within =
+      let entry = entry_within s c p q call reply xs asked led in
+      let rest = acts_few acts entry.1 in
+      omega (arith, entry.0, rest)
+  acts_few (ends_so {p} {c} {d} {x} row) within = let few = row_within c p (ends_by x d) row in omega (arith, few, within)
+  acts_few (goes {p} {c} {d} {b = b} row runs) within =
+      let few = row_within c p (goes_into b d) row in
       let rest = runs_few runs in
-      omega (arith, yields-append xs ys, first, rest, begins s c can)
-  runs_few (leaves {s = s} {c = c} can does apart) = let first = does_few does in omega (arith, first, begins s c can)
+      omega (arith, few, rest, within)
+  acts_few (stops_inside {p} {c} {d} {k = k} {b = b} row runs) within =
+      let few = row_within c p (encloses k b d) row in
+      let rest = runs_few runs in
+      omega (arith, few, rest, within)
+  acts_few (leaves_it {p} {c} {d} {e} {k = k} {b = b} {xs = xs} {ys = ys} {x = x} row runs acts) within =
+      let few = row_within c p (encloses k b d) row in
+      let rest = runs_few runs in
+      let exit = closing_within k x e in
+      let last = acts_few acts (omega (arith, exit.1)) in
+      omega (arith, few, rest, last, exit.0, within, yields-append xs ys)
+  acts_few _ within = omega (arith, within)
+
+  runs_few : {s : Setting} {ss : List Stmt} {c d : Context} {xs : List Happened} {y : Extent} → Runs s ss c xs y d → yields xs + d.steps ≤ c.steps
+  runs_few (and_more {one} {c = c} {xs = xs} {ys = ys} can acts runs) =
+      let first = acts_few acts (begins_within (begun one c) one) in
+      let rest = runs_few runs in
+      let once = begins_once c one can in
+      omega (arith, first, rest, once, yields-append xs ys)
+  runs_few (and_out {one} {c = c} can acts apart) =
+      let first = acts_few acts (begins_within (begun one c) one) in
+      let once = begins_once c one can in
+      omega (arith, first, once)
   runs_few _ = omega arith
 
--- a log may stop in any block
-cut_passes : (blocks : List (List Stmt)) (f : ℕ) (frames : List Frame) (c : Context) → Around blocks f frames cut c [] cut c
-cut_passes blocks f [] c = (refl, refl, refl)
-cut_passes blocks f (Rest block place ∷ frames) c = cut_passes blocks f frames c
-cut_passes blocks f (Again block ∷ frames) c = cut_passes blocks f frames c
-cut_passes blocks f (Catch register handler ∷ frames) c = cut_passes blocks f frames c
+-- ---- bodies
 
--- a log that leads to a place may stop there
-pub led_runs : (body : Shown) (f : ℕ) (hs : List Happened) (block place : ℕ) → Leads body f hs (At block place)
-    → Runs (blocks_of body) f (stmts_of_body body) (context_of body.birth) hs cut (context_at body)
-led_runs body f hs block place leads =
-    let ahead : Ahead (blocks_of body) f body.frames block place (context_at body) [] cut (context_at body) =
-    record { front = []; back = []; exit = cut; context = context_at body; first = waits; second = cut_passes (blocks_of body) f body.frames (context_at body); is = refl } in
-    subst (λ (zs : List Happened). Runs (blocks_of body) f (stmts_of_body body) (context_of body.birth) zs cut (context_at body)) (append-nil hs) (leads [] cut (context_at body) ahead)
+few_of : (body : Shown) (f : ℕ) (log : List Happened) → MayBeOf body.number f → Fits body log → yields (own log) ≤ most_steps
+few_of body f log mine fits =
+    let there = leads_segment (setting_of body f) (lives (block_in body.program body.birth.text)) (context_of body.birth) (own log) (place_of body.standing) (around_of body.standing body.frames) body.context (fits.stands f mine) in
+    let few = acts_few there.acts (omega arith) in
+    omega (arith, few)
 
-module _ (body : Shown) (f : ℕ) where
-  few_left : (log : List Happened) (o : Outcome) → HasLeft body f log o → yields log ≤ most_steps
-  few_left log o left = let few = runs_few left.runs in omega (arith, few)
+some_fiber : (body : Shown) (log : List Happened) (number : Option ℕ) → body.number ≡ number → number ≢ Some 0 → Fits body log → yields (own log) ≤ most_steps
+some_fiber body log None is apart fits = few_of body 1 log (subst (λ (n : Option ℕ). MayBeOf n 1) (sym is) tt) fits
+some_fiber body log (Some f) is apart fits = few_of body f log (subst (λ (n : Option ℕ). MayBeOf n f) (sym is) (refl, λ zero_is. apart (ap Some zero_is))) fits
 
-  few_led : (log : List Happened) (standing : Standing) → Leads body f log standing → yields log ≤ most_steps
-  few_led log (At block place) leads = let few = runs_few (led_runs body f log block place leads) in omega (arith, few)
-  few_led log (Leaving o) left = few_left log o left
-
-  few_standing : (log : List Happened) → Stands body f log → yields log ≤ most_steps
-  few_standing log (before_end leads) = let few = few_led log body.standing leads in omega (arith, few)
-  few_standing _ (behind_end {log} o is left) =
-      let few = few_left log o left in
-      omega (arith, few, yields-append log (event f (call.End o) Plain ∷ []))
-
-some_fiber : (body : Shown) (log : List Happened) (number : Option ℕ) → body.number ≡ number → number ≢ Some 0 → Fits body log → yields log ≤ most_steps
-some_fiber body log None is apart fits = few_standing body 1 log (fits.stands 1 (subst (λ (n : Option ℕ). MayBeOf n 1) (sym is) tt))
-some_fiber body log (Some f) is apart fits =
-    few_standing body f log (fits.stands f (subst (λ (n : Option ℕ). MayBeOf n f) (sym is) (refl, λ zero_is. apart (ap Some zero_is))))
-
-pub few_yields : (body : Shown) (log : List Happened) → body.number ≢ Some 0 → Fits body log → yields log ≤ most_steps
+pub few_yields : (body : Shown) (log : List Happened) → body.number ≢ Some 0 → Fits body log → yields (own log) ≤ most_steps
 few_yields body log apart fits = some_fiber body log body.number refl apart fits

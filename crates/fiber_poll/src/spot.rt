@@ -1,10 +1,30 @@
+use fiber_body::{Exit, Standing};
 use pic_base::Outcome;
 
-/// A place in a block: before the statement with this place, or at the block's end.
+ghost use Rattle.std.specs.Prelude.{◌≡◌, ◌<◌, ◌+◌, ◌^◌};
+ghost use Rattle.fiber_poll.specs.Moving.{behind_at};
+
+/// A place in a block: that of a statement, or the block's end.
 #[derive(Clone, Copy)]
 pub(crate) struct Spot {
     pub block: u32,
-    pub place: usize,
+    pub place: u32,
+}
+
+impl Spot {
+    /// Where a fiber stands once the statement at this place has ended so.
+    pub(crate) fn behind(self, exit: Exit) -> Standing
+        requires { self.place + 1 < 2 ^ 32 }
+        ensures { result ≡ behind_at self exit }
+    {
+        match exit {
+            Exit::Next => Standing::At {
+                block: self.block,
+                place: self.place + 1,
+            },
+            exit => Standing::Out(exit),
+        }
+    }
 }
 
 /// What ends a turn.

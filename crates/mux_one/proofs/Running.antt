@@ -11,7 +11,7 @@ use Rattle.pic_machine.specs.State.{CanStart}
 use Rattle.pic_machine.specs.Final.{IsFinal}
 use Rattle.pic_machine.specs.Step.{IsLive}
 use Rattle.pic_machine.specs.History.{Origin, event, world}
-use Rattle.pic_machine.specs.Log.{Others, log}
+use Rattle.pic_machine.specs.Log.{Others, log, own}
 use Rattle.pic_machine.specs.Order.{IsOwn, begin, turns_over, yields}
 use Rattle.pic_machine.specs.Sight.{Carry, Holds, Sight, fiber_of}
 use Rattle.pic_machine.specs.Lending.{Began, Kept}
@@ -20,6 +20,7 @@ use Rattle.pic_machine.proofs.Histories.{IsLegal-nil}
 use Rattle.pic_machine.proofs.Quiet.{IsQuiet, IsQuiet-all, IsQuiet-start, IsQuiet-world}
 use Rattle.pic_machine.proofs.Readiness.{IsReady, all_ended, first_is_live, ready_is_live}
 use Rattle.pic_machine.proofs.Standing.{log_stays}
+use Rattle.pic_machine.proofs.Owns.{yields_own}
 use Rattle.pic_machine.proofs.Turnings.{few_turns, live_within, turn_over, turn_yields, turns_over-append, yields-append}
 use Rattle.pic_machine.proofs.Turns.{turn_in_order}
 use Rattle.port_plain.specs.Shown.{Shown, origin_in, sight_of}
@@ -61,22 +62,22 @@ own_others f g (h ∷ es) other own = (λ same. other (sym own.0.by ∙ same), o
 
 module _ {S : Type 0} (p q r : Sight S) (f : ℕ) (ready line : List ℕ) (How : Happened → Type 0)
     (alone : p.alone ≡ true) (began : Began p q (event f call.Turn reply.Plain)) (stopped : Stopped q r f (Some ready) (Some line) How) where
-  abbrev own : List Happened
-  own = stopped.going ++ stopped.final ∷ []
+  abbrev made : List Happened
+  made = stopped.going ++ stopped.final ∷ []
 
   begun : q.front ≡ p.front ++ event f call.Turn reply.Plain ∷ []
   begun = began.later.front ∙ ap (λ (zs : List Happened). p.front ++ (zs ++ event f call.Turn reply.Plain ∷ [])) (began.none alone)
 
-  done : r.front ≡ q.front ++ own
+  done : r.front ≡ q.front ++ made
   done = stopped.grew.later.front ∙ ap (λ (zs : List Happened). q.front ++ zs) (stopped.grew.alone (began.later.alone ∙ alone))
 
-  one : turns_over own ≡ 1
+  one : turns_over made ≡ 1
   one = turn_over stopped.going stopped.final stopped.on stopped.last
 
   pub one_further : turns_over r.front ≡ turns_over p.front + 1
   one_further =
       let first : turns_over q.front ≡ turns_over p.front + 0 = ap (λ (zs : List Happened). turns_over zs) begun ∙ turns_over-append p.front (event f call.Turn reply.Plain ∷ []) in
-      let rest : turns_over r.front ≡ turns_over q.front + turns_over own = ap (λ (zs : List Happened). turns_over zs) done ∙ turns_over-append q.front own in
+      let rest : turns_over r.front ≡ turns_over q.front + turns_over made = ap (λ (zs : List Happened). turns_over zs) done ∙ turns_over-append q.front made in
       omega (arith, first, rest, one)
 
   origins : r.origin ≡ p.origin
@@ -84,12 +85,12 @@ module _ {S : Type 0} (p q r : Sight S) (f : ℕ) (ready line : List ℕ) (How :
 
   few_mine : yields (log q.front f) ≤ most_steps → yields (log r.front f) ≤ most_steps + 1
   few_mine few =
-      let more : yields (log r.front f) ≡ yields (log q.front f) + yields own = ap (λ (zs : List Happened). yields zs) stopped.grew.log ∙ yields-append (log q.front f) own in
+      let more : yields (log r.front f) ≡ yields (log q.front f) + yields made = ap (λ (zs : List Happened). yields zs) stopped.grew.log ∙ yields-append (log q.front f) made in
       omega (arith, more, few, turn_yields stopped.going stopped.final stopped.on)
 
   log_other : (g : ℕ) → f ≢ g → log r.front g ≡ log p.front g
   log_other g other =
-      ap (λ (zs : List Happened). log zs g) done ∙ (log_stays q.front own g (own_others f g own other stopped.grew.own)
+      ap (λ (zs : List Happened). log zs g) done ∙ (log_stays q.front made g (own_others f g made other stopped.grew.own)
       ∙ (ap (λ (zs : List Happened). log zs g) begun ∙ log_stays p.front (event f call.Turn reply.Plain ∷ []) g (other, tt)))
 
   few_each : ((g : ℕ) → yields (log p.front g) ≤ most_steps + 1) → yields (log q.front f) ≤ most_steps → (g : ℕ) → yields (log r.front g) ≤ most_steps + 1
@@ -134,10 +135,11 @@ module _ {B S : Type 0} (seen : B → Carry S) (fits : B → List Happened → T
   pub turn_further : turns_over new.front ≡ turns_over old.front + 1
   turn_further = one_further (sight_of seen old) (sight_of seen mid) (sight_of seen new) f ready line (λ h. ⊤) refl began over
 
-  pub turn_under_way : ((log : List Happened) → (seen body).number ≢ Some 0 → fits body log → yields log ≤ most_steps) → IsUnderWay (sight_of seen new) line
+  pub turn_under_way : ((log : List Happened) → (seen body).number ≢ Some 0 → fits body log → yields (own log) ≤ most_steps) → IsUnderWay (sight_of seen new) line
   turn_under_way few =
       let numbered : (seen body).number ≢ Some 0 = not_clock (seen body) f held.0.number held.1 (first_in_range (sight_of seen old) f ready under_way).0 in
-      next_turn (sight_of seen old) (sight_of seen mid) (sight_of seen new) f ready line (λ h. ⊤) refl began over under_way (few (log mid.front f) numbered held.2)
+      next_turn (sight_of seen old) (sight_of seen mid) (sight_of seen new) f ready line (λ h. ⊤) refl began over under_way
+      (omega (arith, few (log mid.front f) numbered held.2, yields_own (origin_in seen mid) mid.front f began.legal))
 
 -- a port whose work is done found so
 pub found_over : {B S : Type 0} (seen : B → Carry S) (old new : Shown B) → IsUnderWay (sight_of seen old) [] → Kept (sight_of seen old) (sight_of seen new) → IsFinal (world (origin_in seen new) new.front)

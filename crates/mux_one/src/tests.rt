@@ -1,4 +1,5 @@
 //! Runs in the FIFO order, of bodies that yield so many times and then end.
+ghost use Rattle.pic_machine.proofs.Owns.{yields_own_below};
 ghost use Rattle.std.specs.Prelude.{◌≡◌, ◌≢◌, ◌+◌, ◌-◌, ◌≤◌, ◌<◌, [], Some, None, Err, length, vec_len, vec_capacity};
 ghost use Rattle.std.proofs.Common.{◌∙◌, sym, arith, refl};
 ghost use Rattle.pic_base.specs.Steps.{most_steps};
@@ -107,7 +108,7 @@ impl<P: Port<Body = Patient>> Poller<P> for Patiently {
 
     ghost polls_later = { λ poller old new polls origin share. rw origin polls };
 
-    ghost few = { λ poller body log number fits. omega (arith, fits.1 number) };
+    ghost few = { λ poller body log number fits. omega (arith, fits.1 number, yields_own_below log) };
 }
 
 /// Forks a child, if there is room for one, and ends the turn.

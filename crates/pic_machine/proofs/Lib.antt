@@ -1,4 +1,5 @@
 pub mod Histories
+pub mod Owns
 pub mod Quiet
 pub mod Steps
 pub mod Standing

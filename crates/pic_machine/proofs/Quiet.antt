@@ -1,5 +1,6 @@
 -- While no call makes a duty, nobody owes anything. These laws stand until a call does.
-use Rattle.std.proofs.Common.{◌≡◌, ℕ, zero, suc, ◌+◌, ◌<◌, Bool, true, false, List, [], ◌∷◌, replicate, slice_index_or, slice_get, slice_set, refl, ap, subst}
+use Rattle.std.proofs.Common.{◌≡◌, ℕ, zero, suc, ◌+◌, ◌<◌, Bool, true, false, List, [], ◌∷◌, ◌++◌, replicate, slice_index_or, slice_get, slice_set, refl, sym, ap, subst, ◌∙◌, append_assoc}
+use Rattle.std.specs.List.{AllByRecursion}
 use Rattle.std.specs.Prelude.{All}
 use Rattle.std.proofs.lemmas.List.{get_or-replicate, length-replicate, replicate_more}
 use Rattle.pic_base.specs.declared.duty.Duty.{Duty}
@@ -8,9 +9,11 @@ use Rattle.pic_machine.specs.declared.entry.Call.TheVariants.{Complete, Peek, Fo
 use Rattle.pic_machine.specs.Happened.{Happened}
 use Rattle.pic_machine.specs.declared.world.Start.{Start}
 use Rattle.pic_machine.specs.State.{State, owed_of, world_at}
-use Rattle.pic_machine.specs.Duty.{fulfilled, followed}
+use Rattle.pic_machine.specs.Duty.{fulfilled, followed, is_owing}
 use Rattle.pic_machine.specs.Step.{after, grown, has_room}
-use Rattle.pic_machine.specs.History.{Origin, world_from, world}
+use Rattle.pic_machine.specs.History.{IsLegal, Origin, world_from, world}
+use Rattle.pic_machine.specs.Log.{log, own}
+use Rattle.pic_machine.proofs.Owns.{own-log, own_all}
 
 -- so many fibers, none of which owes anything
 abbrev pub none_owe : ℕ → List (List Duty)
@@ -63,6 +66,23 @@ IsQuiet-world_from w (h ∷ hs) quiet = IsQuiet-world_from (after w h.entry.fibe
 
 pub IsQuiet-world : (origin : Origin) (hs : List Happened) → IsQuiet origin.world → IsQuiet (world origin hs)
 IsQuiet-world origin hs quiet = IsQuiet-world_from origin.world hs quiet
+
+-- so no entry of a legal history has the mark
+unmarked_from : (origin : Origin) (front back : List Happened) → IsQuiet origin.world → IsLegal origin (front ++ back) → AllByRecursion (λ h. h.owing ≡ false) back
+unmarked_from origin front [] quiet legal = tt
+unmarked_from origin front (h ∷ back) quiet legal =
+    let assoc : (front ++ h ∷ []) ++ back ≡ front ++ h ∷ back = append_assoc front (h ∷ []) back in
+    let none : owed_of (world origin front) h.entry.fiber ≡ [] = IsQuiet-owed (world origin front) h.entry.fiber (IsQuiet-world origin front quiet) in (
+      (legal.each front back h refl).owing ∙ ap (λ (ds : List Duty). is_owing ds h.entry.call) none,
+      unmarked_from origin (front ++ h ∷ []) back quiet (subst (IsLegal origin) (sym assoc) legal),
+    )
+
+pub none_marked : (origin : Origin) (hs : List Happened) → IsQuiet origin.world → IsLegal origin hs → AllByRecursion (λ h. h.owing ≡ false) hs
+none_marked origin hs quiet legal = unmarked_from origin [] hs quiet legal
+
+-- and a fiber's own log is its whole log
+pub own_whole : (origin : Origin) (hs : List Happened) (f : ℕ) → IsQuiet origin.world → IsLegal origin hs → own (log hs f) ≡ log hs f
+own_whole origin hs f quiet legal = own-log hs f ∙ ap (λ (zs : List Happened). log zs f) (own_all hs (none_marked origin hs quiet legal))
 
 pub IsQuiet-start : (start : Start) → IsQuiet (world_at start)
 IsQuiet-start start = record { count = 2; is = refl }

@@ -8,7 +8,8 @@ use Rattle.pic_machine.specs.declared.port.PortFault.{PortFault}
 use Rattle.pic_machine.specs.declared.port.PortFault.TheVariants.{Full, Again, Memory}
 use Rattle.pic_machine.specs.declared.port.ClaimRefusal.{ClaimRefusal}
 use Rattle.pic_machine.specs.declared.port.ClaimRefusal.TheVariants as claim
-use Rattle.pic_machine.specs.History.{IsLegal, event}
+use Rattle.pic_machine.specs.Duty.{is_owing}
+use Rattle.pic_machine.specs.History.{IsLegal, event, happening}
 use Rattle.pic_machine.specs.Log.{Others}
 use Rattle.pic_machine.specs.Sight.{Carry, Sight, Notes, IsSame, Holds, fiber_of}
 
@@ -89,6 +90,11 @@ pub record Lent {S : Type 0} (old new : Sight S) (before now : Carry S) (h : Hap
 -- the same of a call of the body's fiber that made no fiber, with the reply
 abbrev pub Called : {S : Type 0} → Sight S → Sight S → Carry S → Carry S → Call → Reply → Type 0
 Called old new before now call reply = Lent old new before now (event (fiber_of before) call reply)
+
+-- the same of a call that a duty may ask for: the entry has the mark where the body owes something
+abbrev pub Answered : {S : Type 0} → Sight S → Sight S → Carry S → Carry S → Call → Reply → Type 0
+Answered old new before now call reply =
+    Lent old new before now (happening (is_owing (old.duties before.owes) call) (fiber_of before) call reply)
 
 -- the body is out still, and no entry was made for it
 pub record Spared {S : Type 0} (old new : Sight S) (before now : Carry S) : Type 0 where

@@ -19,6 +19,16 @@ is_logged f h = (h.entry.fiber == f) && not (is_turn h.entry.call)
 abbrev pub log : List Happened → ℕ → List Happened
 log hs f = filter (is_logged f) hs
 
+-- a marked entry fulfils what its fiber owed, since nothing else is allowed then within a turn, as
+-- `DutiesAllow` says
+abbrev pub is_due : Happened → Bool
+is_due h = h.owing
+
+-- a fiber's own log: its log without the entries by which it fulfilled what it owed, so that what is left
+-- is what its text asks for
+abbrev pub own : List Happened → List Happened
+own hs = filter (λ h. not (is_due h)) hs
+
 -- what a report leaves out: that a turn began
 abbrev pub is_hidden : Call → Reply → Bool
 is_hidden call reply = is_turn call

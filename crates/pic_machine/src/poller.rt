@@ -1,7 +1,7 @@
 ghost use Rattle.std.specs.Prelude.{◌≡◌, ◌≢◌, ◌≤◌, List, Some};
 ghost use Rattle.pic_base.specs.Steps.{most_steps};
 ghost use Rattle.pic_machine.specs.Happened.{Happened};
-ghost use Rattle.pic_machine.specs.Log.{log};
+ghost use Rattle.pic_machine.specs.Log.{log, own};
 ghost use Rattle.pic_machine.specs.Order.{yields};
 ghost use Rattle.pic_machine.specs.Sight.{Holds, Sight, fiber_of};
 
@@ -46,5 +46,5 @@ pub trait Poller<P: Port> {
 
     // A fiber yields no more often than it has steps.
     ghost few: { (poller : Self) (body : P.Body) (log : List Happened) → (P.Body.seen body).number ≢ Some 0
-        → P.Body.fits body log → yields log ≤ most_steps };
+        → P.Body.fits body log → yields (own log) ≤ most_steps };
 }

@@ -57,7 +57,7 @@ pub trait ReadyLine {
 /// A call with a body that is out makes one entry, after any that were made on other ports, and notes
 /// it in the body; or it is refused, and the body is as before.
 pub trait Port: Drop {
-    ghost use Rattle.pic_machine.specs.Lending.{Began, Called, Calm, Faulted, FitsWith, Kept, Laid, Lent, Made, NotClaimed, Refuses, RefusesMaking};
+    ghost use Rattle.pic_machine.specs.Lending.{Answered, Began, Called, Calm, Faulted, FitsWith, Kept, Laid, Lent, Made, NotClaimed, Refuses, RefusesMaking};
 
     type Body: Carried + Send;
 
@@ -84,7 +84,7 @@ pub trait Port: Drop {
     /// Looks at a computation.
     fn peek(&mut self, body: &mut Self::Body, comp: CompNo) -> Result<Option<Outcome>, PortFault>
         requires { CanMake (sight self.old) (Self.Body.seen body.old) (Call.Peek comp) }
-        ensures made { IfOk result (λ seen. Called (sight self.old) (sight self.new)
+        ensures made { IfOk result (λ seen. Answered (sight self.old) (sight self.new)
             (Self.Body.seen body.old) (Self.Body.seen body.new) (Call.Peek comp) (Reply.Peeked seen)) }
         ensures none { IfErr result (λ fault. Refuses fault (sight self.old) (sight self.new)
             (Self.Body.seen body.old) (Self.Body.seen body.new)) }
@@ -98,7 +98,7 @@ pub trait Port: Drop {
         outcome: Outcome,
     ) -> Result<CompleteReply, PortFault>
         requires { CanMake (sight self.old) (Self.Body.seen body.old) (Call.Complete comp outcome) }
-        ensures made { IfOk result (λ how. Called (sight self.old) (sight self.new)
+        ensures made { IfOk result (λ how. Answered (sight self.old) (sight self.new)
             (Self.Body.seen body.old) (Self.Body.seen body.new)
             (Call.Complete comp outcome) (Reply.Completed how)) }
         ensures none { IfErr result (λ fault. Refuses fault (sight self.old) (sight self.new)

@@ -7,14 +7,16 @@ use Rattle.pic_machine.specs.declared.state.FiberState.TheVariants.{Live}
 use Rattle.pic_machine.specs.declared.entry.Call.TheVariants.{Fork}
 use Rattle.pic_machine.specs.declared.entry.Reply.{Reply}
 use Rattle.pic_machine.specs.declared.entry.Reply.TheVariants.{Full, Made}
+use Rattle.pic_machine.specs.Duty.{is_owing}
 use Rattle.pic_machine.specs.Happened.{Happened}
-use Rattle.pic_machine.specs.State.{State, world_at}
+use Rattle.pic_machine.specs.State.{State, owed_of, world_at}
 use Rattle.pic_machine.specs.Step.{after, fork_reply, grown, has_room}
 use Rattle.pic_machine.specs.History.{Follows, IsLegal, MayMake, event, forked, world}
 use Rattle.pic_machine.specs.Sight.{Carry, IsChild}
 use Rattle.pic_machine.proofs.Fresh.{IsFresh}
 use Rattle.pic_machine.proofs.Histories.{IsLegal-push, world-push}
 use Rattle.pic_machine.proofs.Homes.{child_home}
+use Rattle.pic_machine.proofs.Owns.{unasked_free}
 use Rattle.pic_machine.proofs.Quiet.{IsQuiet-owed, IsQuiet-start}
 use Rattle.pic_machine.proofs.Steps.{slice_get-append_left}
 use Rattle.port_plain.specs.Shown.{IsAtHome, Shown, listed, made_of, origin_in, sight_of, with_entry}
@@ -56,6 +58,13 @@ no_room_many w room = rw room refl
 room_many : (w : State) → has_room w ≡ true → length (grown (has_room w) w.fibers Live) ≡ length w.fibers + 1
 room_many w room = rw room (length-append w.fibers (Live ∷ []))
 
+-- whoever may fork owes nothing
+pub fork_free : {B S : Type 0} (seen : B → Carry S) (port now : Shown B) → port ≡ now → (f text value : ℕ) → MayMake (origin_in seen now) now.front f (Fork text value)
+    → is_owing (owed_of (world (origin_in seen port) port.front) f) (Fork text value) ≡ false
+fork_free {B} seen port now same f text value may =
+    subst (λ (q : Shown B). is_owing (owed_of (world (origin_in seen q) q.front) f) (Fork text value) ≡ false) (sym same)
+    (unasked_free (owed_of (world (origin_in seen now) now.front) f) (Fork text value) tt may.allowed.duties)
+
 module _ {B S : Type 0} (seen : B → Carry S) (fits : B → List Happened → Type 0) where
   module _ (port now : Shown B) (w : State) (bodies : List (Option B)) (ticking : B) (same : port ≡ now) (stored : IsStored seen fits port w bodies ticking) (f text value : ℕ) (may : MayMake (origin_in seen now) now.front f (Fork text value))
       (out : now.out ≡ Some f) (reply : Reply) (is : reply ≡ fork_reply w) (v : State) (step : v ≡ after w f (Fork text value)) where
@@ -70,6 +79,7 @@ module _ {B S : Type 0} (seen : B → Carry S) (fits : B → List Happened → T
         may = may;
         reply = sym no_room.full ∙ (is ∙ ap fork_reply (world_seen seen fits port now w bodies ticking same stored));
         birth = refl;
+        owing = sym (fork_free seen now now refl f text value may);
       }
 
       pub full_reply : reply ≡ Full
@@ -104,6 +114,7 @@ module _ {B S : Type 0} (seen : B → Carry S) (fits : B → List Happened → T
         may = rw (fresh_child.same_text, fresh_child.same_value) may;
         reply = rw (here, next.room, next.number) refl;
         birth = record { of_child = birth; is = refl; same_text = refl; same_value = refl; stands = fresh_child.stands };
+        owing = rw (fresh_child.same_text, fresh_child.same_value) (sym (fork_free seen now now refl f text value may));
       }
 
       legal : IsLegal (origin_in seen now) (now.front ++ h ∷ [])

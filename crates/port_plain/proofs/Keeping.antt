@@ -9,11 +9,11 @@ use Rattle.pic_machine.specs.State.{State}
 use Rattle.std.proofs.lemmas.Option.{slice_get_read, slice_get_within}
 use Rattle.pic_machine.specs.declared.state.FiberState.TheVariants.{Live}
 use Rattle.pic_machine.specs.Step.{Allowed, IsLive, MakesNoFiber, after, reply_of}
-use Rattle.pic_machine.specs.History.{Follows, IsLegal, MayMake, event, world}
+use Rattle.pic_machine.specs.History.{Follows, IsLegal, MayMake, world}
 use Rattle.pic_machine.specs.Sight.{Carry, fiber_of}
 use Rattle.pic_machine.proofs.Histories.{IsLegal-push, world-push}
 use Rattle.pic_machine.proofs.Homes.{home_stays}
-use Rattle.port_plain.specs.Shown.{IsAtHome, Shown, listed, origin_in, with_entry}
+use Rattle.port_plain.specs.Shown.{IsAtHome, Shown, listed, marked, origin_in, with_entry}
 use Rattle.port_plain.specs.Stored.{IsAway, IsStored}
 use Rattle.pic_machine.proofs.Steps.{length-fibers, slice_get-set_other, slice_get-set_same}
 use Rattle.port_plain.proofs.Steps.{allowed_now, event_follows}
@@ -141,13 +141,13 @@ module _ {B S : Type 0} (seen : B → Carry S) (fits : B → List Happened → T
       made_allowed = allowed_now (origin_in seen now) now.front w f call world_seen may
 
       module _ (none : MakesNoFiber call) (reply : Reply) (is : reply ≡ reply_of w f call) where
-        pub made_follows : Follows (origin_in seen now) now.front (event f call reply)
+        pub made_follows : Follows (origin_in seen now) now.front (marked seen now f call reply)
         made_follows = event_follows (origin_in seen now) now.front w f call reply world_seen may none is
 
-        pub made_stored : now.out ≡ Some f → (v : State) → v ≡ after w f call → IsStored seen fits (with_entry port (event f call reply)) v bodies ticking
+        pub made_stored : now.out ≡ Some f → (v : State) → v ≡ after w f call → IsStored seen fits (with_entry port (marked seen port f call reply)) v bodies ticking
         made_stored out v step =
-            subst (λ (q : Shown B). IsStored seen fits (with_entry q (event f call reply)) v bodies ticking) (sym same)
-            (entry_stored now w v bodies ticking (event f call reply) (subst (λ (q : Shown B). IsStored seen fits q w bodies ticking) same stored) out made_follows step (length-fibers w f call none))
+            subst (λ (q : Shown B). IsStored seen fits (with_entry q (marked seen q f call reply)) v bodies ticking) (sym same)
+            (entry_stored now w v bodies ticking (marked seen now f call reply) (subst (λ (q : Shown B). IsStored seen fits q w bodies ticking) same stored) out made_follows step (length-fibers w f call none))
 
     pub stored_seen : IsStored seen fits now w bodies ticking
     stored_seen = subst (λ (q : Shown B). IsStored seen fits q w bodies ticking) same stored

@@ -7,21 +7,24 @@ use Rattle.pic_machine.specs.declared.entry.Reply.TheVariants as reply
 use Rattle.pic_machine.specs.declared.entry.Reply.TheVariants.{Plain}
 use Rattle.pic_machine.specs.declared.port.PortFault.{PortFault}
 use Rattle.pic_machine.specs.declared.port.PortFault.TheVariants.{Full, Memory}
+use Rattle.pic_base.specs.declared.duty.Duty.{Duty}
+use Rattle.pic_machine.specs.Duty.{is_owing}
 use Rattle.pic_machine.specs.Happened.{Happened}
 use Rattle.pic_machine.specs.declared.birth.Birth.{Birth}
 use Rattle.pic_machine.specs.declared.world.Start.{Start}
 use Rattle.pic_machine.specs.State.{State, owed_of}
 use Rattle.pic_machine.specs.Step.{IsLive, MakesNoFiber, MayAct, after, reply_of}
-use Rattle.pic_machine.specs.History.{Follows, IsLegal, Origin, event, forked, origin_of, world}
+use Rattle.pic_machine.specs.History.{Follows, IsLegal, Origin, event, forked, happening, origin_of, world}
 use Rattle.pic_machine.specs.Log.{is_hidden, is_turn, log, visible}
-use Rattle.pic_machine.specs.Sight.{Carry, Holds, IsChild, Notes, fiber_of}
-use Rattle.pic_machine.specs.Lending.{Began, Called, FitsWith, Laid, Lent, Made, RefusesMaking, Spared}
+use Rattle.pic_machine.specs.Sight.{CanMake, Carry, Holds, IsChild, Notes, fiber_of}
+use Rattle.pic_machine.specs.Lending.{Answered, Began, Called, FitsWith, Laid, Lent, Made, RefusesMaking, Spared}
 use Rattle.pic_machine.proofs.Histories.{log-push_hidden, world-push}
 use Rattle.pic_machine.proofs.Homes.{home_held, made_home}
 use Rattle.pic_machine.proofs.Onward.{Onward, onward_began, onward_lent, onward_made, spared_same}
+use Rattle.pic_machine.proofs.Owns.{IsUnasked, answered_free, can_free, turn_free, unasked_free}
 use Rattle.pic_machine.proofs.Quiet.{IsQuiet-after, IsQuiet-owed, IsQuiet-start, IsQuiet-world}
 use Rattle.pic_machine.proofs.Standing.{birth_stays}
-use Rattle.port_plain.specs.Shown.{IsAtHome, IsLast, IsLent, NoFiber, Shown, listed, origin_in, sight_of, with_entry}
+use Rattle.port_plain.specs.Shown.{IsAtHome, IsLast, IsLent, NoFiber, Shown, listed, marked, origin_in, sight_of, with_entry}
 use Rattle.pic_machine.proofs.Steps.{EndsNone, LeavesDuties, acts_own, owed_left}
 
 -- ---- which calls are which
@@ -119,19 +122,32 @@ module _ {B S : Type 0} (seen : B → Carry S) (port : Shown B) where
 
 -- ---- the calls that a body is lent for
 
-module _ {B S : Type 0} (seen : B → Carry S) (port new : Shown B) (f : ℕ) (call : Call) (reply : Reply) (made : new ≡ with_entry port (event f call reply)) (follows : Follows (origin_in seen port) port.front (event f call reply)) where
-  pub called : (a b : Carry S) → Holds (sight_of seen port) a → a.number ≡ Some f → EndsNone call → is_turn call ≡ false → is_hidden call reply ≡ false
+module _ {B S : Type 0} (seen : B → Carry S) (port new : Shown B) (owing : Bool) (f : ℕ) (call : Call) (reply : Reply) (made : new ≡ with_entry port (happening owing f call reply)) (follows : Follows (origin_in seen port) port.front (happening owing f call reply)) where
+  lent_for : (a b : Carry S) → Holds (sight_of seen port) a → a.number ≡ Some f → EndsNone call → is_turn call ≡ false → is_hidden call reply ≡ false
       → owed_of (after (world (origin_in seen port) port.front) f call) (fiber_of a) ≡ owed_of (world (origin_in seen port) port.front) (fiber_of a)
-      → Notes a b ((event f call reply).entry ∷ []) → Called (sight_of seen port) (sight_of seen new) a b call reply
-  called a b holds number acts within shown same notes =
+      → Notes a b ((happening owing f call reply).entry ∷ []) → Lent (sight_of seen port) (sight_of seen new) a b (happening owing (fiber_of a) call reply)
+  lent_for a b holds number acts within shown same notes =
       let is : fiber_of a ≡ f = fiber_is a f number in
-      subst (λ (q : Shown B). Called (sight_of seen port) (sight_of seen q) a b call reply) (sym made)
-      (subst (λ (n : ℕ). Lent (sight_of seen port) (sight_of seen (with_entry port (event f call reply))) a b (event n call reply)) (sym is)
-      (lent seen port (event f call reply) holds.legal follows a b holds (sym is) within acts same (shown_notes a b (event f call reply) shown notes)))
+      subst (λ (q : Shown B). Lent (sight_of seen port) (sight_of seen q) a b (happening owing (fiber_of a) call reply)) (sym made)
+      (subst (λ (n : ℕ). Lent (sight_of seen port) (sight_of seen (with_entry port (happening owing f call reply))) a b (happening owing n call reply)) (sym is)
+      (lent seen port (happening owing f call reply) holds.legal follows a b holds (sym is) within acts same (shown_notes a b (happening owing f call reply) shown notes)))
 
-  pub lent_called : (a b : Carry S) → Holds (sight_of seen port) a → a.number ≡ Some f → IsLent call → Notes a b ((event f call reply).entry ∷ []) → Called (sight_of seen port) (sight_of seen new) a b call reply
-  lent_called a b holds number is notes =
-      called a b holds number (lent_acts call is) (lent_within call is) (lent_shown call reply is) (lent_owes port.start (seen port.main).birth port.front f call (fiber_of a) is) notes
+-- the body owes what its fiber owes, so the entry has the mark that it tells
+module _ {B S : Type 0} (seen : B → Carry S) (port new : Shown B) (f : ℕ) (call : Call) (reply : Reply) (made : new ≡ with_entry port (marked seen port f call reply)) (follows : Follows (origin_in seen port) port.front (marked seen port f call reply)) where
+  pub lent_answered : (a b : Carry S) → Holds (sight_of seen port) a → a.number ≡ Some f → IsLent call → Notes a b ((marked seen port f call reply).entry ∷ []) → Answered (sight_of seen port) (sight_of seen new) a b call reply
+  lent_answered a b holds number is notes =
+      let w : State = world (origin_in seen port) port.front in
+      let owes : owed_of w f ≡ listed a.owes = sym (holds.owes ∙ ap (owed_of w) (fiber_is a f number)) in
+      subst (λ (duties : List Duty). Lent (sight_of seen port) (sight_of seen new) a b (happening (is_owing duties call) (fiber_of a) call reply)) owes
+      (lent_for seen port new (is_owing (owed_of w f) call) f call reply made follows a b holds number (lent_acts call is) (lent_within call is) (lent_shown call reply is)
+      (lent_owes port.start (seen port.main).birth port.front f call (fiber_of a) is) notes)
+
+-- no duty asks for what is said
+pub said : {B S : Type 0} (seen : B → Carry S) (port new : Shown B) (a b : Carry S) (value : ℕ) (reply : Reply) → CanMake (sight_of seen port) a (Say value) → reply ≡ reply_of (world (origin_in seen port) port.front) (fiber_of a) (Say value)
+    → Answered (sight_of seen port) (sight_of seen new) a b (Say value) reply → Called (sight_of seen port) (sight_of seen new) a b (Say value) Plain
+said seen port new a b value reply can is answered =
+    answered_free (sight_of seen port) (sight_of seen new) a b (Say value) Plain (can_free (sight_of seen port) a (Say value) can tt)
+    (subst (λ (r : Reply). Answered (sight_of seen port) (sight_of seen new) a b (Say value) r) is answered)
 
 -- ---- the calls with which a turn is over
 
@@ -145,21 +161,28 @@ last_leaves Yield is = tt
 last_leaves (End o) is = tt
 last_leaves _ is = absurd is
 
+last_unasked : (call : Call) → IsLast call → IsUnasked call
+last_unasked Yield is = tt
+last_unasked (End o) is = tt
+last_unasked _ is = absurd is
+
 pub last_within : (call : Call) → IsLast call → is_turn call ≡ false
 last_within Yield is = refl
 last_within (End o) is = refl
 last_within _ is = absurd is
 
-module _ {B S : Type 0} (seen : B → Carry S) (fits : B → List Happened → Type 0) (same_rest : B → B → Type 0) (port new : Shown B) (f : ℕ) (call : Call) (reply : Reply) (last : IsLast call) (made : new ≡ with_entry port (event f call reply))
-    (follows : Follows (origin_in seen port) port.front (event f call reply)) (body : B) (holds : Holds (sight_of seen port) (seen body)) (number : (seen body).number ≡ Some f) where
+module _ {B S : Type 0} (seen : B → Carry S) (fits : B → List Happened → Type 0) (same_rest : B → B → Type 0) (port new : Shown B) (f : ℕ) (call : Call) (reply : Reply) (last : IsLast call) (made : new ≡ with_entry port (marked seen port f call reply))
+    (follows : Follows (origin_in seen port) port.front (marked seen port f call reply)) (body : B) (holds : Holds (sight_of seen port) (seen body)) (number : (seen body).number ≡ Some f) where
   abbrev h : Happened
   h = event (fiber_of (seen body)) call Plain
 
   is_plain : reply ≡ Plain
   is_plain = follows.reply ∙ last_plain (world (origin_in seen port) port.front) f call last
 
-  is_h : event f call reply ≡ h
-  is_h = ap (λ (r : Reply). event f call r) is_plain ∙ ap (λ (n : ℕ). event n call Plain) (sym (fiber_is (seen body) f number))
+  is_h : marked seen port f call reply ≡ h
+  is_h =
+      ap (λ (owing : Bool). happening owing f call reply) (unasked_free (owed_of (world (origin_in seen port) port.front) f) call (last_unasked call last) follows.may.allowed.duties)
+      ∙ (ap (λ (r : Reply). event f call r) is_plain ∙ ap (λ (n : ℕ). event n call Plain) (sym (fiber_is (seen body) f number)))
 
   h_made : new ≡ with_entry port h
   h_made = made ∙ ap (with_entry port) is_h
@@ -173,7 +196,7 @@ module _ {B S : Type 0} (seen : B → Carry S) (fits : B → List Happened → T
       (front_made seen port h holds.legal h_follows None)
 
   -- the body comes home with the entry
-  pub finished_home : (noted : B) → Notes (seen body) (seen noted) ((event f call reply).entry ∷ []) → same_rest body noted → FitsWith seen same_rest fits body (log port.front (fiber_of (seen body))) h → IsAtHome seen fits new (fiber_of (seen noted)) noted
+  pub finished_home : (noted : B) → Notes (seen body) (seen noted) ((marked seen port f call reply).entry ∷ []) → same_rest body noted → FitsWith seen same_rest fits body (log port.front (fiber_of (seen body))) h → IsAtHome seen fits new (fiber_of (seen noted)) noted
   finished_home noted notes rest fitting =
       let g : ℕ = fiber_of (seen body) in
       let same : fiber_of (seen noted) ≡ g = ap (λ (m : Option ℕ). fiber_of (record (seen body) { number = m })) notes.number in
@@ -201,7 +224,7 @@ module _ {B S : Type 0} (seen : B → Carry S) (port new : Shown B) (f text valu
   pub fork_full : (fault : PortFault) → fault ≡ Full → NoFiber seen fault port new f (Fork text value) → Notes a b (record { fiber = f; call = Fork text value; reply = reply.Full } ∷ []) → RefusesMaking Full (sight_of seen port) (sight_of seen new) a b (Fork text value)
   fork_full fault is none notes =
       let full : NoFiber seen Full port new f (Fork text value) = subst (λ (x : PortFault). NoFiber seen x port new f (Fork text value)) is none in
-      called seen port new f (Fork text value) reply.Full full.0 full.1 a b holds number tt refl refl (owed_left (world (origin_in seen port) port.front) f (Fork text value) (fiber_of a) tt) notes
+      lent_for seen port new false f (Fork text value) reply.Full full.0 full.1 a b holds number tt refl refl (owed_left (world (origin_in seen port) port.front) f (Fork text value) (fiber_of a) tt) notes
 
 pub fork_none : {B S : Type 0} (seen : B → Carry S) (port new : Shown B) (f : ℕ) (call : Call) (fault : PortFault) → fault ≡ Memory → NoFiber seen fault port new f call → new ≡ port
 fork_none seen port new f call fault is none = subst (λ (x : PortFault). NoFiber seen x port new f call) is none
@@ -216,16 +239,17 @@ module _ {B S : Type 0} (seen : B → Carry S) (fits : B → List Happened → T
   abbrev turn : Happened
   turn = event f Turn Plain
 
-  module _ (taken new : Shown B) (reply : Reply) (out : taken ≡ record port { out = Some f }) (made : new ≡ with_entry taken (event f Turn reply)) (legal : IsLegal (origin_in seen taken) taken.front) (follows : Follows (origin_in seen taken) taken.front (event f Turn reply)) where
-    is_turned : new ≡ record (with_entry port turn) { out = Some f }
-    is_turned =
+  module _ (taken new : Shown B) (reply : Reply) (out : taken ≡ record port { out = Some f }) (made : new ≡ with_entry taken (marked seen taken f Turn reply)) (legal : IsLegal (origin_in seen taken) taken.front) (follows : Follows (origin_in seen taken) taken.front (marked seen taken f Turn reply)) where
+    is_turn_of : marked seen taken f Turn reply ≡ turn
+    is_turn_of =
         let plain : reply ≡ Plain = follows.reply in
-        made ∙ (ap (λ (r : Reply). with_entry taken (event f Turn r)) plain ∙ ap (λ (q : Shown B). with_entry q turn) out)
+        ap (λ (owing : Bool). happening owing f Turn reply) (turn_free (owed_of (world (origin_in seen taken) taken.front) f)) ∙ ap (λ (r : Reply). event f Turn r) plain
+
+    is_turned : new ≡ record (with_entry port turn) { out = Some f }
+    is_turned = made ∙ (ap (with_entry taken) is_turn_of ∙ ap (λ (q : Shown B). with_entry q turn) out)
 
     turn_follows : Follows (origin_in seen port) port.front turn
-    turn_follows =
-        let plain : reply ≡ Plain = follows.reply in
-        subst (λ (q : Shown B). Follows (origin_in seen q) q.front turn) out (subst (λ (r : Reply). Follows (origin_in seen taken) taken.front (event f Turn r)) plain follows)
+    turn_follows = subst (λ (q : Shown B). Follows (origin_in seen q) q.front turn) out (subst (Follows (origin_in seen taken) taken.front) is_turn_of follows)
 
     legal_before : IsLegal (origin_in seen port) port.front
     legal_before = subst (λ (q : Shown B). IsLegal (origin_in seen q) q.front) out legal

@@ -12,10 +12,12 @@ use Rattle.pic_machine.specs.declared.entry.Reply.{Reply}
 use Rattle.pic_machine.specs.declared.entry.Reply.TheVariants as reply
 use Rattle.pic_machine.specs.declared.port.PortFault.{PortFault}
 use Rattle.pic_machine.specs.declared.port.PortFault.TheVariants.{Full, Again, Memory}
-use Rattle.pic_machine.specs.History.{Follows, Origin, event, origin_of}
+use Rattle.pic_machine.specs.History.{Follows, Origin, event, happening, origin_of, world}
+use Rattle.pic_machine.specs.Duty.{is_owing}
 use Rattle.pic_machine.specs.Home.{IsHome}
 use Rattle.pic_machine.specs.Sight.{Carry, Owing, Sight, Walking, nothing}
 use Rattle.pic_machine.specs.Sight.Walking.{triggers}
+use Rattle.pic_machine.specs.State.{owed_of}
 
 -- the start, main's body as it was given, the history so far, and the fiber whose body is out
 pub record Shown (B : Type 0) : Type 0 where
@@ -64,6 +66,10 @@ sight_of seen port = record {
 -- the body of fiber f is at home in the port, and as the history says
 abbrev pub IsAtHome : {B S : Type 0} → (B → Carry S) → (B → List Happened → Type 0) → Shown B → ℕ → B → Type 0
 IsAtHome seen fits port f body = IsHome seen fits (origin_in seen port) (seen port.main).share listed port.front f body
+
+-- the entry of a call that makes no fiber, of a fiber that may owe something there
+abbrev pub marked : {B S : Type 0} → (B → Carry S) → Shown B → ℕ → Call → Reply → Happened
+marked seen port f call reply = happening (is_owing (owed_of (world (origin_in seen port) port.front) f) call) f call reply
 
 -- the same port, with one entry more
 abbrev pub with_entry : {B : Type 0} → Shown B → Happened → Shown B

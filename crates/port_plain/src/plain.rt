@@ -34,6 +34,7 @@ pub struct PlainPort<B: Carried> {
 }
 
 impl<B: Carried> Model for PlainPort<B> {
+    ghost use Rattle.pic_machine.specs.State.{world_at};
     ghost use Rattle.port_plain.specs.Shown.{Shown};
     ghost use Rattle.port_plain.specs.Paired.{HasEachBirth, paired};
     ghost use Rattle.port_plain.specs.Stored.{IsStored};
@@ -43,12 +44,12 @@ impl<B: Carried> Model for PlainPort<B> {
     ghost view = { λ port. record {
       start = port.start;
       main = port.main.value;
-      front = paired port.history.items port.births.items;
+      front = paired (world_at port.start) port.history.items port.births.items;
       out = port.out;
     } };
 
     ghost invariant = { λ port. IsStored B.seen B.fits
-        (record { start = port.start; main = port.main.value; front = paired port.history.items port.births.items; out = port.out })
+        (record { start = port.start; main = port.main.value; front = paired (world_at port.start) port.history.items port.births.items; out = port.out })
         port.world port.bodies.items port.clock
         × HasEachBirth port.history.items port.births.items };
 }

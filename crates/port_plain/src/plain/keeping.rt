@@ -1,9 +1,9 @@
 //! What the port stores, step by step: each of these calls keeps its invariant.
 ghost use Rattle.std.specs.Prelude.{◌≡◌, ◌≢◌, ◌∷◌, [], ◌++◌, Some, None, IfErr, IfOk, OnErr};
 ghost use Rattle.pic_machine.specs.Step.{IsLive, MakesNoFiber};
-ghost use Rattle.pic_machine.specs.History.{Follows, IsLegal, MayMake, event, forked, world};
+ghost use Rattle.pic_machine.specs.History.{Follows, IsLegal, MayMake, forked, world};
 ghost use Rattle.pic_machine.specs.Sight.{IsChild, fiber_of};
-ghost use Rattle.port_plain.specs.Shown.{IsAtHome, NoFiber, origin_in, sight_of, with_entry};
+ghost use Rattle.port_plain.specs.Shown.{IsAtHome, NoFiber, marked, origin_in, sight_of, with_entry};
 
 use super::{PlainPort, reply};
 use pic_base::{FiberNo, Memory, Value};
@@ -16,9 +16,9 @@ impl<B: Carried> PlainPort<B> {
         requires may { MayMake (origin_in B.seen self.old) self.old.front fiber call }
         requires none { MakesNoFiber call }
         ensures made { IfOk result (λ reply.
-            self.new ≡ with_entry self.old (event fiber call reply)) }
+            self.new ≡ with_entry self.old (marked B.seen self.old fiber call reply)) }
         ensures follows { IfOk result (λ reply.
-            Follows (origin_in B.seen self.old) self.old.front (event fiber call reply)) }
+            Follows (origin_in B.seen self.old) self.old.front (marked B.seen self.old fiber call reply)) }
         ensures legal { IsLegal (origin_in B.seen self.old) self.old.front }
         ensures err { OnErr result (self.new ≡ self.old) }
     {

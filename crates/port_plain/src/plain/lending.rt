@@ -4,7 +4,7 @@ ghost use Rattle.pic_machine.specs.Step.{reply_of};
 ghost use Rattle.pic_machine.specs.History.{event, world};
 ghost use Rattle.pic_machine.specs.Log.{log};
 ghost use Rattle.pic_machine.specs.Sight.{CanMake, fiber_of};
-ghost use Rattle.pic_machine.specs.Lending.{Called, FitsWith, Made, Refuses};
+ghost use Rattle.pic_machine.specs.Lending.{Answered, FitsWith, Made, Refuses};
 ghost use Rattle.port_plain.specs.Shown.{IsLast, IsLent, origin_in, sight_of};
 
 use super::PlainPort;
@@ -15,7 +15,7 @@ impl<B: Carried> PlainPort<B> {
     pub(crate) fn lend(&mut self, body: &mut B, call: Call) -> Result<Reply, PortFault>
         requires can { CanMake (sight_of B.seen self.old) (B.seen body.old) call }
         requires lent { IsLent call }
-        ensures made { IfOk result (λ reply. Called (sight_of B.seen self.old) (sight_of B.seen self.new)
+        ensures made { IfOk result (λ reply. Answered (sight_of B.seen self.old) (sight_of B.seen self.new)
             (B.seen body.old) (B.seen body.new) call reply) }
         ensures reply { IfOk result (λ reply. reply ≡ reply_of
             (world (origin_in B.seen self.old) self.old.front) (fiber_of (B.seen body.old)) call) }

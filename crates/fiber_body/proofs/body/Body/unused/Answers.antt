@@ -3,7 +3,7 @@ use Rattle.std.specs.Option.{option_map}
 use Rattle.std.specs.Arc.{arc_value}
 use Rattle.fiber_body.specs.contracts.body.Body.{the_view}
 use Rattle.fiber_body.specs.declared.body.Content.{Content}
-use Rattle.fiber_body.specs.Meaning.{Context}
+use Rattle.fiber_body.specs.Context.{Context}
 use Rattle.fiber_body.proofs.Newborn.{is_new}
 use Rattle.fiber_body.proofs.body.Body.unused.Goals as goal
 

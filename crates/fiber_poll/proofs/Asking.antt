@@ -1,0 +1,174 @@
+-- Statements that ask for one call: which one, and where its entry leads.
+use Rattle.std.specs.Prelude.{IsTrue}
+use Rattle.std.proofs.Common.{◌≡◌, ◌≢◌, ℕ, zero, suc, ◌+◌, ◌*◌, ◌-◌, ◌<◌, ◌≤◌, ◌==◌, Bool, slice_get, Option, Some, None, List, [], ◌∷◌, ◌++◌, length, refl, sym, ap, subst, ◌∙◌, arith}
+use Rattle.pic_machine.specs.declared.birth.Birth.{Birth}
+use Rattle.pic_machine.specs.declared.entry.Call.{Call}
+use Rattle.pic_machine.specs.declared.entry.Call.TheVariants as asked
+use Rattle.pic_machine.specs.declared.entry.Reply.{Reply}
+use Rattle.pic_machine.specs.declared.entry.Reply.TheVariants.{Completed, Full, Peeked}
+use Rattle.pic_machine.specs.Happened.{Happened}
+use Rattle.pic_machine.specs.Sight.{fiber_of}
+use Rattle.pic_base.specs.declared.outcome.Outcome.TheVariants.{Returned, Cancelled}
+use Rattle.script_tree.specs.declared.program.CompRef.{CompRef}
+use Rattle.script_tree.specs.declared.program.CompRef.TheVariants.{Root, Named, Promise as PromiseIn}
+use Rattle.script_tree.specs.declared.program.Decl.{Decl}
+use Rattle.script_tree.specs.declared.program.Kind.{Kind}
+use Rattle.script_tree.specs.declared.program.Kind.TheVariants.{Comp}
+use Rattle.script_tree.specs.declared.program.Stmt.{Stmt}
+use Rattle.script_tree.specs.declared.program.Stmt.TheVariants as stmt
+use Rattle.script_tree.specs.Tree.{Tree}
+use Rattle.script_tree.specs.WellFormed.{IsComp, IsOfSort, StmtFits}
+use Rattle.fiber_body.specs.declared.standing.Exit.{Exit}
+use Rattle.fiber_body.specs.declared.standing.Exit.TheVariants.{Next, Raised}
+use Rattle.fiber_body.specs.declared.standing.Standing.{Standing}
+use Rattle.fiber_body.specs.declared.standing.Standing.TheVariants.{At, Ended}
+use Rattle.fiber_body.specs.Around.{Leads, Outer, Place, at_stmt, rest, within}
+use Rattle.fiber_body.specs.Context.{Context, Setting, behind_decl, comp_in, comp_numbers, limit_met, value, stepped, with_register}
+use Rattle.fiber_body.specs.Fits.{LeadsTo, setting_of}
+use Rattle.fiber_body.specs.Follows.{context_of}
+use Rattle.fiber_body.specs.Framing.{ends_ahead, leads_entry}
+use Rattle.fiber_body.specs.Phases.{Phase, calls, ended, lives}
+use Rattle.fiber_body.specs.Segments.{happens}
+use Rattle.fiber_body.specs.Shown.{Shown, stood}
+use Rattle.fiber_body.specs.Statements.{Effect, begins, born, call_of, first, on, or_first, outcome_number, replied, result, state_number, won}
+use Rattle.fiber_body.specs.Texts.{block_in, script_in}
+use Rattle.fiber_poll.specs.declared.spot.Spot.{Spot}
+use Rattle.fiber_poll.specs.Built.{is_built_comp, is_built_stmt}
+use Rattle.fiber_poll.specs.UnderWay.{CanAsk}
+use Rattle.fiber_poll.specs.Moving.{CostsStep, IsBefore, behind_at, taken, weight, weight_at}
+use Rattle.fiber_poll.proofs.Moves.{behind, behind_live, costly, framed, stands_at}
+
+-- ---- how such a statement begins
+
+first_stepped : (c : Context) (one : Stmt) → first c one ≡ calls one → first (stepped c) one ≡ calls one
+first_stepped c (stmt.If a test b then other) is = is
+first_stepped c _ is = is
+
+costs_call : (c : Context) (one : Stmt) → first c one ≡ calls one → CostsStep one
+costs_call c (stmt.Loop block) is = absurd cc
+costs_call c _ is = tt
+
+begins_call : (c : Context) (one : Stmt) → result c.registers c.cells one ≡ None → first c one ≡ calls one → begins (stepped c) one ≡ calls one
+begins_call c one none is = ap (or_first (stepped c) one) none ∙ first_stepped c one is
+
+born_stepped : (c : Context) (call : Call) → born (stepped c) call ≡ born c call
+born_stepped c (asked.Fork text v) = refl
+born_stepped c _ = refl
+
+-- ---- how a reply ends it
+
+pub record EndsBy (c : Context) (p : Phase) : Type 0 where
+  pub exit : Exit
+  pub context : Context
+  pub is : p ≡ ended exit context
+  pub steps : context.steps ≡ c.steps
+
+pub ends_by_reply : (c : Context) (one : Stmt) (reply : Reply) → EndsBy c (replied c one reply)
+ends_by_reply c (stmt.Return r comp v) (Completed how) = record { exit = Next; context = with_register c r (won how); is = refl; steps = refl }
+ends_by_reply c (stmt.Cancel r comp v) (Completed how) = record { exit = Next; context = with_register c r (won how); is = refl; steps = refl }
+ends_by_reply c (stmt.Peek r q comp) (Peeked seen) = record { exit = Next; context = with_register (with_register c r (state_number seen)) q (outcome_number seen); is = refl; steps = refl }
+ends_by_reply c (stmt.Spawn text v) Full = record { exit = Raised limit_met; context = c; is = refl; steps = refl }
+ends_by_reply c _ _ = record { exit = Next; context = c; is = refl; steps = refl }
+
+-- the body behind it
+abbrev left_by : Shown → Spot → Exit → Context → Shown
+left_by body spot exit c = record body { standing = behind_at spot exit; context = c }
+
+taken_is : (b : Shown) (spot : Spot) (c : Context) (p : Phase) (e : EndsBy c p) → taken b spot p ≡ left_by b spot e.exit e.context
+taken_is b spot c p e = ap (taken b spot) e.is
+
+behind_weight : (spot : Spot) (x : Exit) → weight_at (behind_at spot x) ≤ 2
+behind_weight spot Next = omega arith
+behind_weight spot x = omega arith
+
+pub taken_lighter : (b : Shown) (spot : Spot) (one : Stmt) (reply : Reply) → b.standing ≡ At spot.block spot.place → 0 < b.context.steps → weight (taken b spot (replied (stepped b.context) one reply)) < weight b
+taken_lighter b spot one reply at some =
+    let e = ends_by_reply (stepped b.context) one reply in
+    let there : weight (taken b spot (replied (stepped b.context) one reply)) ≡ weight (left_by b spot e.exit e.context) = ap weight (taken_is b spot (stepped b.context) (replied (stepped b.context) one reply) e) in
+    let before : weight_at b.standing ≡ 2 = ap weight_at at in
+    let light = behind_weight spot e.exit in
+    omega (arith, there, before, light, e.steps, some)
+
+pub taken_live : (b : Shown) (spot : Spot) (one : Stmt) (reply : Reply) → (taken b spot (replied (stepped b.context) one reply)).standing ≢ Ended
+taken_live b spot one reply =
+    let e = ends_by_reply (stepped b.context) one reply in
+    subst (λ (z : Shown). z.standing ≢ Ended) (sym (taken_is b spot (stepped b.context) (replied (stepped b.context) one reply) e)) (behind_live spot e.exit)
+
+-- ---- where its entry leads
+
+module _ (a : Shown) (f : ℕ) (spot : Spot) (one : Stmt) (call : Call) (reply : Reply) (mine : List Happened) where
+  abbrev s : Setting
+  s = setting_of a f
+
+  abbrev c : Context
+  c = stepped a.context
+
+  abbrev outer : List Outer
+  outer = rest spot.block (spot.place + 1) ∷ framed a.frames
+
+  abbrev LeadsThere : List Happened → Place → List Outer → Context → Type 0
+  LeadsThere = Leads s (lives (block_in a.program a.birth.text)) (context_of a.birth)
+
+  -- the log leads to where the statement asks for its call
+  led_within : IsBefore a spot one → result a.context.registers a.context.cells one ≡ None → first a.context one ≡ calls one → LeadsTo a f mine → LeadsThere mine (within (calls one)) outer c
+  led_within before none is leads =
+      let there : LeadsThere mine (at_stmt spot.block spot.place) (framed a.frames) a.context = subst (λ (x : Shown). LeadsTo x f mine) (stands_at a (At spot.block spot.place) before.here.at) leads in
+      subst (λ (p : Phase). LeadsThere mine (within p) outer c) (begins_call a.context one none is)
+      (λ tail y e ahead. there tail y e (costly s spot a.frames one a.context (costs_call a.context one is) before.here.is before.steps tail y e ahead))
+
+  -- and with the call's entry to where the reply leads
+  pub leads_asked : IsBefore a spot one → result a.context.registers a.context.cells one ≡ None → first a.context one ≡ calls one
+      → call_of (comp_numbers 1 (script_in a.program).decls) c one ≡ Some call → LeadsTo a f mine
+      → LeadsTo (left_by a spot (ends_by_reply c one reply).exit (ends_by_reply c one reply).context) f (mine ++ happens f call reply (born a.context call) ∷ [])
+  leads_asked before none is asks leads =
+      let p : Phase = replied c one reply in
+      let e = ends_by_reply c one reply in
+      let log : List Happened = mine ++ happens f call reply (born a.context call) ∷ [] in
+      let made : LeadsThere log (within p) outer c =
+      subst (λ (o : Option Birth). LeadsThere (mine ++ happens f call reply o ∷ []) (within p) outer c) (born_stepped a.context call)
+      (leads_entry s (lives (block_in a.program a.birth.text)) (context_of a.birth) mine outer call reply asks refl (led_within before none is leads)) in
+      let over : LeadsThere log (within (ended e.exit e.context)) outer c = subst (λ (q : Phase). LeadsThere log (within q) outer c) e.is made in
+      λ tail y d ahead. over tail y d (ends_ahead s outer refl tail y d (behind s spot a.frames e.exit e.context tail y d ahead))
+
+-- ---- calls that a statement asks for, and behind which its turn goes on
+
+behind_one : (n : ℕ) (k : Kind) → behind_decl n k ≤ n + 1
+behind_one n Comp = omega arith
+behind_one n _ = omega arith
+
+numbered : (n : ℕ) (ds : List Decl) (place : ℕ) → place < length ds → (k : ℕ) × (slice_get (comp_numbers n ds) place ≡ Some k) × (k < n + length ds)
+numbered n [] place less = absurd (omega (arith, less))
+numbered n (d ∷ ds) zero less = (n, refl, omega arith)
+numbered n (d ∷ ds) (suc place) less =
+    let later = numbered (behind_decl n d.kind) ds place (omega (arith, less)) in
+    let one = behind_one n d.kind in
+    (later.0, later.1, omega (arith, later.2, one))
+
+is_there : (decls : List Decl) (place : ℕ) (fits : ℕ → Bool) → IsOfSort fits (slice_get decls place) → place < length decls
+is_there [] place fits is = absurd is
+is_there (d ∷ ds) zero fits is = omega arith
+is_there (d ∷ ds) (suc place) fits is = let later = is_there ds place fits is in omega (arith, later)
+
+comp_there : (tree : Tree) (comp : CompRef) → IsComp tree comp → IsTrue (is_built_comp comp) → (k : ℕ) × (comp_in (comp_numbers 1 tree.decls) comp ≡ Some k) × (k ≤ length tree.decls)
+comp_there tree Root is built = (0, refl, omega arith)
+comp_there tree (Named place) is built = let found = numbered 1 tree.decls place (is_there tree.decls place (λ s. s == 1) is) in (found.0, found.1, omega (arith, found.2))
+comp_there tree (PromiseIn register) is built = absurd cc
+
+pub record Asks (tree : Tree) (c : Context) (one : Stmt) : Type 0 where
+  pub call : Call
+  pub is : call_of (comp_numbers 1 tree.decls) c one ≡ Some call
+  pub can : CanAsk tree call
+
+module _ (tree : Tree) (c : Context) where
+  named : (comp : CompRef) (call : ℕ → Call) → ((k : ℕ) → k ≤ length tree.decls → CanAsk tree (call k)) → IsComp tree comp → IsTrue (is_built_comp comp)
+      → (k : Call) × (on (comp_in (comp_numbers 1 tree.decls) comp) call ≡ Some k) × CanAsk tree k
+  named comp call can is built = let found = comp_there tree comp is built in (call found.0, ap (λ (o : Option ℕ). on o call) found.1, can found.0 found.2)
+
+  asks_by : (holder : ℕ) (one : Stmt) → StmtFits tree holder one → IsTrue (is_built_stmt one) → result c.registers c.cells one ≡ None → first c one ≡ calls one → one ≢ stmt.Yield → (k : Call) × (call_of (comp_numbers 1 tree.decls) c one ≡ Some k) × CanAsk tree k
+  asks_by holder (stmt.Say v) fits built none is apart = (asked.Say (value c v), refl, tt)
+  asks_by holder (stmt.Spawn text v) fits built none is apart = (asked.Fork text (value c v), refl, fits.0)
+  asks_by holder (stmt.Return r comp v) fits built none is apart = named comp (λ k. asked.Complete k (Returned (value c v))) (λ k stands. stands) fits.1.0 built
+  asks_by holder (stmt.Cancel r comp v) fits built none is apart = named comp (λ k. asked.Complete k (Cancelled (value c v))) (λ k stands. stands) fits.1.0 built
+  asks_by holder (stmt.Peek r q comp) fits built none is apart = named comp (λ k. asked.Peek k) (λ k stands. stands) fits.1.1.0 built
+  asks_by holder stmt.Yield fits built none is apart = absurd (apart refl)
+  asks_by holder _ fits built none is apart = absurd cc

@@ -1,0 +1,203 @@
+-- Entering blocks and leaving them: what each makes of where a body stands.
+use Rattle.std.proofs.Common.{◌≡◌, ◌≢◌, ℕ, ◌+◌, ◌-◌, ◌<◌, nat_lt, cond, Bool, true, false, Option, Some, None, List, [], ◌∷◌, slice_get, refl, sym, ap, subst, ◌∙◌, arith}
+use Rattle.std.proofs.lemmas.Bool.Decides.{nat_tests}
+use Rattle.script_tree.specs.declared.program.Operand.{Operand}
+use Rattle.script_tree.specs.declared.program.Stmt.{Stmt}
+use Rattle.script_tree.specs.declared.program.Stmt.TheVariants as stmt
+use Rattle.script_tree.specs.declared.program.Test.{Test}
+use Rattle.fiber_body.specs.declared.standing.Exit.{Exit}
+use Rattle.fiber_body.specs.declared.standing.Exit.TheVariants.{Next, Raised, Broke, Spent}
+use Rattle.fiber_body.specs.declared.standing.Frame.{Frame}
+use Rattle.fiber_body.specs.declared.standing.Frame.TheVariants.{Rest, Repeats, Catches}
+use Rattle.fiber_body.specs.declared.standing.Standing.{Standing}
+use Rattle.fiber_body.specs.declared.standing.Standing.TheVariants.{At, Out, Ending, Ended}
+use Rattle.fiber_body.specs.Around.{Turns, around_of, at_stmt, out, place_of, rest, within}
+use Rattle.fiber_body.specs.Context.{Context, block_at, stepped}
+use Rattle.fiber_body.specs.Fits.{setting_of}
+use Rattle.fiber_body.specs.Framing.{begins_ahead, closes_ahead, end_ahead, ends_ahead, enters_ahead, goes_ahead, passes_ahead, rest_ahead, spent_ahead}
+use Rattle.fiber_body.specs.Phases.{branches, repeating}
+use Rattle.fiber_body.specs.Places.{at_place, past_end}
+use Rattle.fiber_body.specs.Shown.{Shown, carry_of, stood}
+use Rattle.fiber_body.specs.Tables.{catches, closing, ends_by, ends_text, goes_into, outcome_of, repeats, settles}
+use Rattle.fiber_body.specs.Texts.{script_in}
+use Rattle.fiber_poll.specs.declared.spot.Spot.{Spot}
+use Rattle.fiber_poll.specs.Moving.{Goes, IsAt, IsBefore, behind_at, chosen, entered, passed, round_of}
+use Rattle.fiber_poll.proofs.Moves.{behind, behind_live, costly, framed, headed, round_row, stands_at}
+
+from_there : (a b : Shown) (there : Standing) → a.standing ≡ there → Goes (stood a there a.context.steps) b → Goes a b
+from_there a b there is goes = subst (λ (x : Shown). Goes x b) (sym (stands_at a there is)) goes
+
+-- ---- entering
+
+module _ (a : Shown) (spot : Spot) where
+  -- a test chose this block
+  pub branch_goes : (left right : Operand) (test : Test) (then block : ℕ) (other : Option ℕ) → IsBefore a spot (stmt.If left test right then other) → chosen a.context left test right then other ≡ Some block
+      → Goes a (entered a spot [] block)
+  branch_goes left right test then block other before some =
+      let one = stmt.If left test right then other in
+      let c = a.context in
+      let row : settles (stepped c) (branches (chosen c left test right then other)) ≡ Some (goes_into block (stepped c)) = ap (λ (o : Option ℕ). settles (stepped c) (branches o)) some in
+      from_there a (entered a spot [] block) (At spot.block spot.place) before.here.at (record {
+        same = refl;
+        turns = λ f tail y e ahead. let s = setting_of a f in
+            costly s spot a.frames one c tt before.here.is before.steps tail y e (goes_ahead s (rest spot.block (spot.place + 1) ∷ framed a.frames) row tail y e ahead);
+        live = λ q. cc;
+      })
+
+  -- or none
+  pub no_branch_goes : (left right : Operand) (test : Test) (then : ℕ) (other : Option ℕ) → IsBefore a spot (stmt.If left test right then other) → chosen a.context left test right then other ≡ None
+      → Goes a (stood a (behind_at spot Next) (a.context.steps - 1))
+  no_branch_goes left right test then other before none =
+      let one = stmt.If left test right then other in
+      let c = a.context in
+      let row : settles (stepped c) (branches (chosen c left test right then other)) ≡ Some (ends_by Next (stepped c)) = ap (λ (o : Option ℕ). settles (stepped c) (branches o)) none in
+      from_there a (stood a (behind_at spot Next) (a.context.steps - 1)) (At spot.block spot.place) before.here.at (record {
+        same = refl;
+        turns = λ f tail y e ahead. let s = setting_of a f in
+            costly s spot a.frames one c tt before.here.is before.steps tail y e
+            (ends_ahead s (rest spot.block (spot.place + 1) ∷ framed a.frames) row tail y e (behind s spot a.frames Next (stepped c) tail y e ahead));
+        live = λ q. cc;
+      })
+
+  pub loop_goes : (block : ℕ) → IsBefore a spot (stmt.Loop block) → Goes a (entered a spot (Repeats block ∷ []) block)
+  loop_goes block before =
+      let c = a.context in
+      from_there a (entered a spot (Repeats block ∷ []) block) (At spot.block spot.place) before.here.at (record {
+        same = refl;
+        turns = λ f tail y e ahead. let s = setting_of a f in
+            begins_ahead s (stmt.Loop block) spot.block spot.place (framed a.frames) c (at_place (block_at s.script.blocks spot.block) spot.place (stmt.Loop block) before.here.is) tt tail y e
+            (enters_ahead s (rest spot.block (spot.place + 1) ∷ framed a.frames) (round_row block c before.steps) tail y e ahead);
+        live = λ q. cc;
+      })
+
+  pub try_goes : (block register handler : ℕ) → IsBefore a spot (stmt.Try block register handler) → Goes a (entered a spot (Catches register handler ∷ []) block)
+  try_goes block register handler before =
+      from_there a (entered a spot (Catches register handler ∷ []) block) (At spot.block spot.place) before.here.at (record {
+        same = refl;
+        turns = λ f tail y e ahead. let s = setting_of a f in
+            costly s spot a.frames (stmt.Try block register handler) a.context tt before.here.is before.steps tail y e
+            (enters_ahead s (rest spot.block (spot.place + 1) ∷ framed a.frames) refl tail y e ahead);
+        live = λ q. cc;
+      })
+
+  -- no step is left
+  pub spent_goes : (one : Stmt) → IsAt a spot one → a.context.steps ≡ 0 → Goes a (stood a (Out Spent) 0)
+  spent_goes (stmt.Loop block) here none =
+      let c : Context = record a.context { steps = 0 } in
+      subst (λ (z : Shown). Goes z (stood a (Out Spent) 0)) (sym (stands_at a (At spot.block spot.place) here.at ∙ ap (stood a (At spot.block spot.place)) none)) (record {
+        same = refl;
+        turns = λ f tail y e ahead. let s = setting_of a f in
+            begins_ahead s (stmt.Loop block) spot.block spot.place (framed a.frames) c (at_place (block_at s.script.blocks spot.block) spot.place (stmt.Loop block) here.is) tt tail y e
+            (ends_ahead s (rest spot.block (spot.place + 1) ∷ framed a.frames) refl tail y e (behind s spot a.frames Spent c tail y e ahead));
+        live = λ q. cc;
+      })
+  spent_goes one here none =
+      let c : Context = record a.context { steps = 0 } in
+      subst (λ (z : Shown). Goes z (stood a (Out Spent) 0)) (sym (stands_at a (At spot.block spot.place) here.at ∙ ap (stood a (At spot.block spot.place)) none)) (record {
+        same = refl;
+        turns = λ f. let s = setting_of a f in
+            spent_ahead s one spot.block spot.place (framed a.frames) c (at_place (block_at s.script.blocks spot.block) spot.place one here.is) refl;
+        live = λ q. cc;
+      })
+
+-- a block has come to its end
+pub end_goes : (a : Shown) (block place : ℕ) → a.standing ≡ At block place → slice_get (block_at (script_in a.program).blocks block) place ≡ None → Goes a (stood a (Out Next) a.context.steps)
+end_goes a block place at past =
+    from_there a (stood a (Out Next) a.context.steps) (At block place) at (record {
+      same = refl;
+      turns = λ f. let s = setting_of a f in end_ahead s block place (framed a.frames) a.context (past_end (block_at s.script.blocks block) place past);
+      live = λ q. cc;
+    })
+
+-- ---- leaving
+
+-- the text is left
+pub text_goes : (a : Shown) (x : Exit) → a.standing ≡ Out x → a.frames ≡ [] → Goes a (stood a (Ending (outcome_of x a.context)) a.context.steps)
+text_goes a x at none =
+    let o = outcome_of x a.context in
+    from_there a (stood a (Ending o) a.context.steps) (Out x) at (record {
+      same = refl;
+      turns = λ f. let s = setting_of a f in
+          subst (λ (frames : List Frame). Turns s (out x) (framed frames) a.context (place_of (Ending o)) [] a.context) (sym none) (closes_ahead s ends_text [] x a.context);
+      live = λ q. cc;
+    })
+
+-- a loop goes round
+pub again_goes : (a : Shown) (block : ℕ) → a.standing ≡ Out Next → slice_get a.frames 0 ≡ Some (Repeats block) → 0 < a.context.steps → Goes a (stood a (At block 0) (a.context.steps - 1))
+again_goes a block at first some =
+    let found = headed a.frames (Repeats block) first in
+    from_there a (stood a (At block 0) (a.context.steps - 1)) (Out Next) at (record {
+      same = refl;
+      turns = λ f. let s = setting_of a f in
+          subst (λ (frames : List Frame). Turns s (out Next) (framed frames) a.context (at_stmt block 0) (framed frames) (stepped a.context)) (sym found.1)
+          (λ tail y e ahead. closes_ahead s (repeats block) (framed found.0) Next a.context tail y e (enters_ahead s (framed found.0) (round_row block a.context some) tail y e ahead));
+      live = λ q. cc;
+    })
+
+no_round : (block : ℕ) (n : ℕ) (c : Context) → n ≡ 0 → c.steps ≡ n → settles c (repeating block Next) ≡ Some (ends_by Spent c)
+no_round block n c none is = let steps : nat_lt 0 c.steps ≡ false = grind (arith, nat_tests, none, is) in rw steps refl
+
+-- a frame is passed
+module _ (a : Shown) (outer : List Frame) where
+  abbrev v : Exit → Frame → Shown
+  v x frame = stood (record a { frames = frame ∷ outer }) (Out x) a.context.steps
+
+  abbrev w : Frame → Exit → Shown
+  w frame x = passed (record a { frames = outer }) frame x
+
+  closed : (frame : Frame) (x : Exit) (b : Shown) → carry_of b ≡ carry_of a → ((f : ℕ) → Turns (setting_of a f) (out x) (framed (frame ∷ outer)) a.context (place_of b.standing) (around_of b.standing b.frames) b.context) → b.standing ≢ Ended → Goes (v x frame) b
+  closed frame x b same turns live = record { same = same; turns = turns; live = live }
+
+  repeats_goes : (block : ℕ) (x : Exit) → (x ≡ Next → a.context.steps ≡ 0) → Goes (v x (Repeats block)) (w (Repeats block) x)
+  repeats_goes block Next none = closed (Repeats block) Next (w (Repeats block) Next) refl (λ f tail y e ahead. let s = setting_of a f in
+      closes_ahead s (repeats block) (framed outer) Next a.context tail y e (ends_ahead s (framed outer) (no_round block a.context.steps a.context (none refl) refl) tail y e ahead)) (λ q. cc)
+  repeats_goes block Broke none = closed (Repeats block) Broke (w (Repeats block) Broke) refl (λ f tail y e ahead. let s = setting_of a f in
+      closes_ahead s (repeats block) (framed outer) Broke a.context tail y e (ends_ahead s (framed outer) refl tail y e ahead)) (λ q. cc)
+  repeats_goes block x none = closed (Repeats block) x (w (Repeats block) x) refl (λ f tail y e ahead. let s = setting_of a f in
+      closes_ahead s (repeats block) (framed outer) x a.context tail y e (ends_ahead s (framed outer) refl tail y e ahead)) (λ q. cc)
+
+  catches_goes : (register handler : ℕ) (x : Exit) → Goes (v x (Catches register handler)) (w (Catches register handler) x)
+  catches_goes register handler (Raised code) = closed (Catches register handler) (Raised code) (w (Catches register handler) (Raised code)) refl (λ f tail y e ahead. let s = setting_of a f in
+      closes_ahead s (catches register handler) (framed outer) (Raised code) a.context tail y e (goes_ahead s (framed outer) refl tail y e ahead)) (λ q. cc)
+  catches_goes register handler x = closed (Catches register handler) x (w (Catches register handler) x) refl (λ f tail y e ahead. let s = setting_of a f in
+      closes_ahead s (catches register handler) (framed outer) x a.context tail y e (ends_ahead s (framed outer) refl tail y e ahead)) (λ q. cc)
+
+  rest_goes : (block place : ℕ) (x : Exit) → Goes (v x (Rest block place)) (w (Rest block place) x)
+  rest_goes block place Next = closed (Rest block place) Next (w (Rest block place) Next) refl (λ f. rest_ahead (setting_of a f) block place (framed outer) a.context) (λ q. cc)
+  rest_goes block place x = closed (Rest block place) x (w (Rest block place) x) refl (λ f. passes_ahead (setting_of a f) block place (framed outer) x a.context (λ q. cc)) (λ q. cc)
+
+  pub pass_goes : (frame : Frame) (x : Exit) → (x ≡ Next → (block : ℕ) → frame ≡ Repeats block → a.context.steps ≡ 0) → Goes (v x frame) (w frame x)
+  pass_goes (Repeats block) x none = repeats_goes block x (λ is. none is block refl)
+  pass_goes (Catches register handler) x none = catches_goes register handler x
+  pass_goes (Rest block place) x none = rest_goes block place x
+
+-- ---- which loop goes round
+
+pub not_some : (o : Option ℕ) → ((n : ℕ) → o ≢ Some n) → o ≡ None
+not_some None none = refl
+not_some (Some n) none = absurd (none n refl)
+
+again_by : (t : Bool) (b n block : ℕ) → nat_lt 0 n ≡ t → cond t (Some b) None ≡ Some block → (b ≡ block) × (0 < n)
+again_by true b n block is some = (cc, grind (arith, nat_tests, is))
+again_by false b n block is some = absurd cc
+
+pub goes_round : (o : Option Frame) (x : Exit) (n block : ℕ) → round_of o x n ≡ Some block → (x ≡ Next) × (o ≡ Some (Repeats block)) × (0 < n)
+goes_round (Some (Repeats b)) Next n block some = let by = again_by (nat_lt 0 n) b n block refl some in (refl, ap (λ (k : ℕ). Some (Repeats k)) by.0, by.1)
+goes_round o x n block some = absurd cc
+
+stays_by : (t : Bool) (b n : ℕ) → nat_lt 0 n ≡ t → cond t (Some b) None ≡ None → n ≡ 0
+stays_by true b n is none = absurd cc
+stays_by false b n is none = grind (arith, nat_tests, is)
+
+pub stays : (o : Option Frame) (x : Exit) (n : ℕ) → round_of o x n ≡ None → x ≡ Next → (block : ℕ) → o ≡ Some (Repeats block) → n ≡ 0
+stays (Some (Repeats b)) Next n none next block is = stays_by (nat_lt 0 n) b n refl none
+stays o x n none next block is = absurd cc
+
+-- the frame that is passed was taken away
+pub passed_goes : (a : Shown) (x : Exit) (frame : Frame) (outer : List Frame) → a.standing ≡ Out x → a.frames ≡ frame ∷ outer → round_of (slice_get a.frames 0) x a.context.steps ≡ None
+    → Goes a (passed (record a { frames = outer }) frame x)
+passed_goes a x frame outer at is none =
+    let there : a ≡ stood (record a { frames = frame ∷ outer }) (Out x) a.context.steps = stands_at a (Out x) at ∙ ap (λ (fs : List Frame). stood (record a { frames = fs }) (Out x) a.context.steps) is in
+    let first : slice_get a.frames 0 ≡ Some frame = ap (λ (fs : List Frame). slice_get fs 0) is in
+    subst (λ (z : Shown). Goes z (passed (record a { frames = outer }) frame x)) (sym there)
+    (pass_goes a outer frame x (λ next block same. stays (slice_get a.frames 0) x a.context.steps none next block (first ∙ ap Some same)))

@@ -1,0 +1,173 @@
+-- Statements that come to their end at once, and rounds of a loop: what each makes of where a body stands.
+use Rattle.std.proofs.Common.{◌≡◌, ◌≢◌, ℕ, ◌+◌, ◌-◌, ◌<◌, ◌≤◌, nat_lt, true, Option, Some, None, List, [], ◌∷◌, ◌++◌, length, map, slice_get, drop, refl, sym, ap, subst, ◌∙◌, arith}
+use Rattle.std.specs.Prelude.{IfSome}
+use Rattle.std.proofs.lemmas.Bool.Decides.{nat_tests}
+use Rattle.std.proofs.lemmas.Option.{slice_get_within}
+use Rattle.pic_machine.specs.Sight.{Carry}
+use Rattle.script_tree.specs.declared.program.Operand.{Operand}
+use Rattle.script_tree.specs.declared.program.Stmt.{Stmt}
+use Rattle.script_tree.specs.declared.program.Stmt.TheVariants as stmt
+use Rattle.script_tree.specs.declared.program.Test.{Test}
+use Rattle.script_tree.specs.Tree.{Tree}
+use Rattle.fiber_body.specs.declared.standing.Exit.{Exit}
+use Rattle.fiber_body.specs.declared.standing.Exit.TheVariants.{Next}
+use Rattle.fiber_body.specs.declared.standing.Frame.{Frame}
+use Rattle.fiber_body.specs.declared.standing.Frame.TheVariants.{Repeats}
+use Rattle.fiber_body.specs.declared.standing.Standing.{Standing}
+use Rattle.fiber_body.specs.declared.standing.Standing.TheVariants.{At, Ended}
+use Rattle.fiber_body.specs.Around.{Outer, Turns, around_of, at_stmt, out, outer_of, place_of, rest, within, work}
+use Rattle.fiber_body.specs.Context.{Context, Setting, block_at, stepped}
+use Rattle.fiber_body.specs.Fits.{setting_of}
+use Rattle.fiber_body.specs.Framing.{begins_ahead, closes_ahead, end_ahead, ends_ahead, enters_ahead, passes_ahead, rest_ahead}
+use Rattle.fiber_body.specs.Phases.{branches, repeating}
+use Rattle.fiber_body.specs.Places.{at_place, past_end}
+use Rattle.fiber_body.specs.Shown.{IsChanged, Shown, carry_of, stood}
+use Rattle.fiber_body.specs.Statements.{Effect, begins, or_first, result}
+use Rattle.fiber_body.specs.Tables.{encloses, ends_by, ends_text, next_round, repeats, settles}
+use Rattle.fiber_body.specs.Texts.{script_in}
+use Rattle.fiber_poll.specs.declared.spot.Spot.{Spot}
+use Rattle.fiber_poll.specs.Moving.{CostsStep, EndsAtOnce, Goes, IsBefore, behind_at, chosen}
+
+-- what is around these frames, within a text
+abbrev pub framed : List Frame → List Outer
+framed frames = map outer_of frames ++ work ends_text ∷ []
+
+-- the body, where its place is known
+pub stands_at : (a : Shown) (there : Standing) → a.standing ≡ there → a ≡ stood a there a.context.steps
+stands_at a there is = ap (λ (st : Standing). record a { standing = st }) is
+
+-- ---- moves, one after the other
+
+pub goes_none : (a : Shown) → a.standing ≢ Ended → Goes a a
+goes_none a live = record { same = refl; turns = λ f tail y d ahead. ahead; live = live }
+
+pub goes_trans : (a b c : Shown) → Goes a b → Goes b c → Goes a c
+goes_trans a b c one two = record {
+  same = two.same ∙ one.same;
+  turns = λ f tail y d ahead. one.turns f tail y d
+      (subst (λ (q : Option Tree). Turns (record { fiber = f; script = script_in q }) (place_of b.standing) (around_of b.standing b.frames) b.context (place_of c.standing) (around_of c.standing c.frames) c.context)
+      (ap (λ (c : Carry (Option Tree)). c.share) one.same) (two.turns f) tail y d ahead);
+  live = two.live;
+}
+
+-- ---- a statement at its place
+
+module _ (s : Setting) (spot : Spot) (frames : List Frame) where
+  abbrev IsThere : Stmt → Type 0
+  IsThere one = slice_get (block_at s.script.blocks spot.block) spot.place ≡ Some one
+
+  -- it begins with a step
+  pub costly : (one : Stmt) (c : Context) → CostsStep one → IsThere one → 0 < c.steps
+      → Turns s (at_stmt spot.block spot.place) (framed frames) c (within (begins (stepped c) one)) (rest spot.block (spot.place + 1) ∷ framed frames) (stepped c)
+  costly (stmt.Loop block) c costs there some = absurd costs
+  costly one c costs there some = begins_ahead s one spot.block spot.place (framed frames) c (at_place (block_at s.script.blocks spot.block) spot.place one there) some
+
+  -- it has ended
+  pub behind : (x : Exit) (c : Context) → Turns s (out x) (rest spot.block (spot.place + 1) ∷ framed frames) c (place_of (behind_at spot x)) (around_of (behind_at spot x) frames) c
+  behind Next c = rest_ahead s spot.block (spot.place + 1) (framed frames) c
+  behind x c = passes_ahead s spot.block (spot.place + 1) (framed frames) x c (λ q. cc)
+
+pub behind_live : (spot : Spot) (x : Exit) → behind_at spot x ≢ Ended
+behind_live spot Next is = cc
+behind_live spot x is = cc
+
+-- a statement comes to its end at once
+pub at_once_goes : (a b : Shown) (spot : Spot) (n : ℕ) (one : Stmt) (x : Exit) → IsBefore (stood a (At spot.block spot.place) n) spot one → EndsAtOnce a b one x
+    → Goes (stood a (At spot.block spot.place) n) (stood b (behind_at spot x) (n - 1))
+at_once_goes a b spot n one x before ends =
+    let c : Context = record a.context { steps = n } in
+    let d : Context = record a.context { registers = ends.registers; cells = ends.cells; steps = n - 1 } in
+    subst (λ (z : Shown). Goes (stood a (At spot.block spot.place) n) (stood z (behind_at spot x) (n - 1))) (sym ends.is) (record {
+      same = refl;
+      turns = λ f tail y e ahead.
+          let s = setting_of a f in
+          costly s spot a.frames one c ends.costs before.here.is before.steps tail y e
+          (ends_ahead s (rest spot.block (spot.place + 1) ∷ framed a.frames) (ends.row (n - 1)) tail y e (behind s spot a.frames x d tail y e ahead));
+      live = behind_live spot x;
+    })
+
+-- ---- which statements do
+
+costs_step : (registers cells : List ℕ) (one : Stmt) (e : Effect) → result registers cells one ≡ Some e → CostsStep one
+costs_step registers cells (stmt.Loop block) e is = absurd cc
+costs_step registers cells _ e is = tt
+
+module _ (a b : Shown) (one : Stmt) where
+  -- one that changes registers and storage alone
+  pub changed_at_once : (r : Option Effect) (answer : Option Exit) → result a.context.registers a.context.cells one ≡ r → IsChanged r a b answer → IfSome answer (EndsAtOnce a b one)
+  changed_at_once None answer is none = subst (λ (o : Option Exit). IfSome o (EndsAtOnce a b one)) (sym none.0) tt
+  changed_at_once (Some e) answer is some = subst (λ (o : Option Exit). IfSome o (EndsAtOnce a b one)) (sym some.0) (record {
+    registers = e.registers;
+    cells = e.cells;
+    is = some.1;
+    costs = costs_step a.context.registers a.context.cells one e is;
+    row = λ n. let c : Context = record a.context { steps = n } in ap (λ (r : Option Effect). settles c (or_first c one r)) is;
+  })
+
+  pub unchanged : (r : Option Effect) (answer : Option Exit) → IsChanged r a b answer → answer ≡ None → (b ≡ a) × (r ≡ None)
+  unchanged None answer none is = (none.1, refl)
+  unchanged (Some e) answer some is = absurd (let both : Some e.exit ≡ None = sym some.0 ∙ is in cc)
+
+-- a test that chooses no block
+pub not_chosen : (a : Shown) (left right : Operand) (test : Test) (then : ℕ) (other : Option ℕ) → chosen a.context left test right then other ≡ None → EndsAtOnce a a (stmt.If left test right then other) Next
+not_chosen a left right test then other none = record {
+  registers = a.context.registers;
+  cells = a.context.cells;
+  is = refl;
+  costs = tt;
+  row = λ n. ap (λ (block : Option ℕ). settles (record a.context { steps = n }) (branches block)) none;
+}
+
+-- ---- rounds
+
+pub some_step : (n : ℕ) → 0 < n → nat_lt 0 n ≡ true
+some_step n some = grind (arith, nat_tests, some)
+
+pub round_row : (block : ℕ) (c : Context) → 0 < c.steps → settles c (repeating block Next) ≡ Some (encloses (repeats block) block (stepped c))
+round_row block c some = rw (some_step c.steps some) refl
+
+pub headed : (frames : List Frame) (frame : Frame) → slice_get frames 0 ≡ Some frame → (outer : List Frame) × (frames ≡ frame ∷ outer)
+headed [] frame is = absurd cc
+headed (first ∷ frames) frame is = (frames, let same : first ≡ frame = cc in ap (λ (x : Frame). x ∷ frames) same)
+
+-- the block has come to its end, and is the body of a loop
+pub round_goes : (a : Shown) (block place n : ℕ) → slice_get (block_at (script_in a.program).blocks block) place ≡ None → slice_get a.frames 0 ≡ Some (Repeats block) → 0 < n
+    → Goes (stood a (At block place) n) (stood a (At block 0) (n - 1))
+round_goes a block place n past first some =
+    let found = headed a.frames (Repeats block) first in
+    let c : Context = record a.context { steps = n } in
+    record {
+      same = refl;
+      turns = λ f. let s = setting_of a f in
+          subst (λ (frames : List Frame). Turns s (at_stmt block place) (framed frames) c (at_stmt block 0) (framed frames) (stepped c)) (sym found.1)
+          (λ tail y e ahead. end_ahead s block place (framed (Repeats block ∷ found.0)) c (past_end (block_at s.script.blocks block) place past) tail y e
+          (closes_ahead s (repeats block) (framed found.0) Next c tail y e (enters_ahead s (framed found.0) (round_row block c some) tail y e ahead)));
+      live = λ q. cc;
+    }
+
+-- ---- a run of such statements
+
+module _ (old a : Shown) (block place n : ℕ) (goes : Goes old (stood a (At block place) n)) where
+  -- the body's program is that of the beginning
+  pub same_blocks : (stmts : List Stmt) → stmts ≡ block_at (script_in old.program).blocks block → stmts ≡ block_at (script_in a.program).blocks block
+  same_blocks stmts is = is ∙ ap (λ (c : Carry (Option Tree)). block_at (script_in c.share).blocks block) (sym goes.same)
+
+  pub round_on : (stmts : List Stmt) → stmts ≡ block_at (script_in old.program).blocks block → slice_get stmts place ≡ None → slice_get a.frames 0 ≡ Some (Repeats block) → 0 < n → Goes old (stood a (At block 0) (n - 1))
+  round_on stmts are past first some =
+      goes_trans old (stood a (At block place) n) (stood a (At block 0) (n - 1)) goes
+      (round_goes a block place n (subst (λ (ss : List Stmt). slice_get ss place ≡ None) (same_blocks stmts are) past) first some)
+
+  pub statement_on : (b : Shown) (stmts : List Stmt) (one : Stmt) (x : Exit) → stmts ≡ block_at (script_in old.program).blocks block → length stmts ≤ 10000 → slice_get stmts place ≡ Some one → 0 < n → EndsAtOnce a b one x
+      → Goes old (stood b (behind_at (record { block = block; place = place }) x) (n - 1))
+  statement_on b stmts one x are few there some ends =
+      let spot : Spot = record { block = block; place = place } in
+      let within = slice_get_within stmts place one there in
+      goes_trans old (stood a (At block place) n) (stood b (behind_at spot x) (n - 1)) goes
+      (at_once_goes a b spot n one x (record {
+        here = record { at = refl; is = subst (λ (ss : List Stmt). slice_get ss place ≡ Some one) (same_blocks stmts are) there; within = omega (arith, within, few) };
+        steps = some;
+      }) ends)
+
+-- a statement that ends at once leaves the frames
+pub same_frames : (a b : Shown) (one : Stmt) (x : Exit) → EndsAtOnce a b one x → length b.frames ≡ length a.frames
+same_frames a b one x ends = ap (λ (z : Shown). length z.frames) ends.is

@@ -1,13 +1,15 @@
 -- Statements that ask for one call: which one, and where its entry leads.
 use Rattle.std.specs.Prelude.{IsTrue}
-use Rattle.std.proofs.Common.{◌≡◌, ◌≢◌, ℕ, zero, suc, ◌+◌, ◌*◌, ◌-◌, ◌<◌, ◌≤◌, ◌==◌, Bool, slice_get, Option, Some, None, List, [], ◌∷◌, ◌++◌, length, refl, sym, ap, subst, ◌∙◌, arith}
+use Rattle.std.proofs.Common.{◌≡◌, ◌≢◌, ℕ, zero, suc, ◌+◌, ◌*◌, ◌-◌, ◌<◌, ◌≤◌, ◌==◌, Bool, false, slice_get, Option, Some, None, List, [], ◌∷◌, ◌++◌, length, refl, sym, ap, subst, ◌∙◌, arith}
 use Rattle.pic_machine.specs.declared.birth.Birth.{Birth}
 use Rattle.pic_machine.specs.declared.entry.Call.{Call}
 use Rattle.pic_machine.specs.declared.entry.Call.TheVariants as asked
 use Rattle.pic_machine.specs.declared.entry.Reply.{Reply}
 use Rattle.pic_machine.specs.declared.entry.Reply.TheVariants.{Completed, Full, Peeked}
 use Rattle.pic_machine.specs.Happened.{Happened}
-use Rattle.pic_machine.specs.Sight.{fiber_of}
+use Rattle.pic_machine.specs.Log.{is_turn, log, own}
+use Rattle.pic_machine.specs.Order.{GoesOn}
+use Rattle.pic_machine.specs.Sight.{Sight, fiber_of}
 use Rattle.pic_base.specs.declared.outcome.Outcome.TheVariants.{Returned, Cancelled}
 use Rattle.script_tree.specs.declared.program.CompRef.{CompRef}
 use Rattle.script_tree.specs.declared.program.CompRef.TheVariants.{Root, Named, Promise as PromiseIn}
@@ -29,13 +31,14 @@ use Rattle.fiber_body.specs.Follows.{context_of}
 use Rattle.fiber_body.specs.Framing.{ends_ahead, leads_entry}
 use Rattle.fiber_body.specs.Phases.{Phase, calls, ended, lives}
 use Rattle.fiber_body.specs.Segments.{happens}
-use Rattle.fiber_body.specs.Shown.{Shown, stood}
+use Rattle.fiber_body.specs.Shown.{Shown, carry_of, stood}
 use Rattle.fiber_body.specs.Statements.{Effect, begins, born, call_of, first, on, or_first, outcome_number, replied, result, state_number, won}
 use Rattle.fiber_body.specs.Texts.{block_in, script_in}
 use Rattle.fiber_poll.specs.declared.spot.Spot.{Spot}
 use Rattle.fiber_poll.specs.Built.{is_built_comp, is_built_stmt}
-use Rattle.fiber_poll.specs.UnderWay.{CanAsk}
+use Rattle.fiber_poll.specs.UnderWay.{CanAsk, IsMade, IsOn, IsUp}
 use Rattle.fiber_poll.specs.Moving.{CostsStep, IsBefore, behind_at, taken, weight, weight_at}
+use Rattle.fiber_poll.proofs.Going.{on_lent}
 use Rattle.fiber_poll.proofs.Moves.{behind, behind_live, costly, framed, stands_at}
 
 -- ---- how such a statement begins
@@ -154,17 +157,12 @@ comp_there tree Root is built = (0, refl, omega arith)
 comp_there tree (Named place) is built = let found = numbered 1 tree.decls place (is_there tree.decls place (λ s. s == 1) is) in (found.0, found.1, omega (arith, found.2))
 comp_there tree (PromiseIn register) is built = absurd cc
 
-pub record Asks (tree : Tree) (c : Context) (one : Stmt) : Type 0 where
-  pub call : Call
-  pub is : call_of (comp_numbers 1 tree.decls) c one ≡ Some call
-  pub can : CanAsk tree call
-
 module _ (tree : Tree) (c : Context) where
   named : (comp : CompRef) (call : ℕ → Call) → ((k : ℕ) → k ≤ length tree.decls → CanAsk tree (call k)) → IsComp tree comp → IsTrue (is_built_comp comp)
       → (k : Call) × (on (comp_in (comp_numbers 1 tree.decls) comp) call ≡ Some k) × CanAsk tree k
   named comp call can is built = let found = comp_there tree comp is built in (call found.0, ap (λ (o : Option ℕ). on o call) found.1, can found.0 found.2)
 
-  asks_by : (holder : ℕ) (one : Stmt) → StmtFits tree holder one → IsTrue (is_built_stmt one) → result c.registers c.cells one ≡ None → first c one ≡ calls one → one ≢ stmt.Yield → (k : Call) × (call_of (comp_numbers 1 tree.decls) c one ≡ Some k) × CanAsk tree k
+  pub asks_by : (holder : ℕ) (one : Stmt) → StmtFits tree holder one → IsTrue (is_built_stmt one) → result c.registers c.cells one ≡ None → first c one ≡ calls one → one ≢ stmt.Yield → (k : Call) × (call_of (comp_numbers 1 tree.decls) c one ≡ Some k) × CanAsk tree k
   asks_by holder (stmt.Say v) fits built none is apart = (asked.Say (value c v), refl, tt)
   asks_by holder (stmt.Spawn text v) fits built none is apart = (asked.Fork text (value c v), refl, fits.0)
   asks_by holder (stmt.Return r comp v) fits built none is apart = named comp (λ k. asked.Complete k (Returned (value c v))) (λ k stands. stands) fits.1.0 built
@@ -172,3 +170,29 @@ module _ (tree : Tree) (c : Context) where
   asks_by holder (stmt.Peek r q comp) fits built none is apart = named comp (λ k. asked.Peek k) (λ k stands. stands) fits.1.1.0 built
   asks_by holder stmt.Yield fits built none is apart = absurd (apart refl)
   asks_by holder _ fits built none is apart = absurd cc
+
+-- such a call ends no turn, and begins none
+goes_on_by : (tree : Tree) (f : ℕ) (call : Call) (reply : Reply) (birth : Option Birth) → CanAsk tree call → GoesOn (happens f call reply birth) × (is_turn call ≡ false)
+goes_on_by tree f (asked.Say v) reply birth can = (refl, refl)
+goes_on_by tree f (asked.Peek comp) reply birth can = (refl, refl)
+goes_on_by tree f (asked.Complete comp outcome) reply birth can = (refl, refl)
+goes_on_by tree f (asked.Fork text v) reply birth can = (refl, refl)
+goes_on_by tree f _ reply birth can = absurd can
+
+-- the entry was made, and the reply has ended the statement
+pub on_made : (p q : Sight (Option Tree)) (a b : Shown) (before now : Option (List ℕ)) (tree : Tree) (spot : Spot) (one : Stmt) (call : Call) (reply : Reply) → IsUp p a → IsBefore a spot one → result a.context.registers a.context.cells one ≡ None
+    → first a.context one ≡ calls one → call_of (comp_numbers 1 (script_in a.program).decls) (stepped a.context) one ≡ Some call → CanAsk tree call → IsMade p q a b before now call reply
+    → IsOn p q a (taken b spot (replied (stepped b.context) one reply)) before now
+on_made p q a b before now tree spot one call reply up here none is asks can made =
+    let f = fiber_of (carry_of a) in
+    let h = happens f call reply (born a.context call) in
+    let e = ends_by_reply (stepped a.context) one reply in
+    let goes = goes_on_by tree f call reply (born a.context call) can in
+    let there : taken b spot (replied (stepped b.context) one reply) ≡ left_by b spot e.exit e.context =
+    ap (λ (c : Context). taken b spot (replied (stepped c) one reply)) made.rest.context ∙ taken_is b spot (stepped a.context) (replied (stepped a.context) one reply) e in
+    let leads = leads_asked a f spot one call reply (own (log p.front f)) here none is asks up.leads in
+    let same : left_by b spot e.exit e.context ≡ record (left_by a spot e.exit e.context) { number = b.number; noted = b.noted; room = b.room } = rw (made.rest.frames, made.lent.birth, made.lent.share) refl in
+    subst (λ (d : Shown). IsOn p q a d before now) (sym there)
+    (on_lent p q a (left_by b spot e.exit e.context) before now h up made.lent refl goes.1 refl goes.0 made.line
+    (subst (λ (d : Shown). LeadsTo d f (own (log p.front f) ++ h ∷ [])) (sym same) leads)
+    (behind_live spot e.exit))

@@ -9,7 +9,7 @@ use Rattle.pic_machine.specs.declared.entry.Reply.TheVariants.{Completed, Full, 
 use Rattle.pic_machine.specs.Happened.{Happened}
 use Rattle.pic_machine.specs.Log.{is_turn, log, own}
 use Rattle.pic_machine.specs.Order.{GoesOn}
-use Rattle.pic_machine.specs.Sight.{Sight, fiber_of}
+use Rattle.pic_machine.specs.Sight.{Notes, Sight, fiber_of}
 use Rattle.pic_base.specs.declared.outcome.Outcome.TheVariants.{Returned, Cancelled}
 use Rattle.script_tree.specs.declared.program.CompRef.{CompRef}
 use Rattle.script_tree.specs.declared.program.CompRef.TheVariants.{Root, Named, Promise as PromiseIn}
@@ -31,14 +31,15 @@ use Rattle.fiber_body.specs.Follows.{context_of}
 use Rattle.fiber_body.specs.Framing.{ends_ahead, leads_entry}
 use Rattle.fiber_body.specs.Phases.{Phase, calls, ended, lives}
 use Rattle.fiber_body.specs.Segments.{happens}
-use Rattle.fiber_body.specs.Shown.{Shown, carry_of, stood}
+use Rattle.fiber_body.specs.Shown.{IsSameRest, Shown, carry_of, stood}
 use Rattle.fiber_body.specs.Statements.{Effect, begins, born, call_of, first, on, or_first, outcome_number, replied, result, state_number, won}
 use Rattle.fiber_body.specs.Texts.{block_in, script_in}
 use Rattle.fiber_poll.specs.declared.spot.Spot.{Spot}
 use Rattle.fiber_poll.specs.Built.{is_built_comp, is_built_stmt}
-use Rattle.fiber_poll.specs.UnderWay.{CanAsk, IsMade, IsOn, IsUp}
+use Rattle.fiber_poll.specs.Polls.{IsPortOf}
+use Rattle.fiber_poll.specs.UnderWay.{CanAsk, CanRun, IsMade, IsOn, IsUp}
 use Rattle.fiber_poll.specs.Moving.{CostsStep, IsBefore, behind_at, taken, weight, weight_at}
-use Rattle.fiber_poll.proofs.Going.{on_lent}
+use Rattle.fiber_poll.proofs.Going.{on_lent, on_reserved, on_trans, program_up}
 use Rattle.fiber_poll.proofs.Moves.{behind, behind_live, costly, framed, stands_at}
 
 -- ---- how such a statement begins
@@ -162,7 +163,8 @@ module _ (tree : Tree) (c : Context) where
       → (k : Call) × (on (comp_in (comp_numbers 1 tree.decls) comp) call ≡ Some k) × CanAsk tree k
   named comp call can is built = let found = comp_there tree comp is built in (call found.0, ap (λ (o : Option ℕ). on o call) found.1, can found.0 found.2)
 
-  pub asks_by : (holder : ℕ) (one : Stmt) → StmtFits tree holder one → IsTrue (is_built_stmt one) → result c.registers c.cells one ≡ None → first c one ≡ calls one → one ≢ stmt.Yield → (k : Call) × (call_of (comp_numbers 1 tree.decls) c one ≡ Some k) × CanAsk tree k
+  asks_by : (holder : ℕ) (one : Stmt) → StmtFits tree holder one → IsTrue (is_built_stmt one) → result c.registers c.cells one ≡ None → first c one ≡ calls one → one ≢ stmt.Yield
+      → (k : Call) × (call_of (comp_numbers 1 tree.decls) (stepped c) one ≡ Some k) × CanAsk tree k
   asks_by holder (stmt.Say v) fits built none is apart = (asked.Say (value c v), refl, tt)
   asks_by holder (stmt.Spawn text v) fits built none is apart = (asked.Fork text (value c v), refl, fits.0)
   asks_by holder (stmt.Return r comp v) fits built none is apart = named comp (λ k. asked.Complete k (Returned (value c v))) (λ k stands. stands) fits.1.0 built
@@ -170,6 +172,23 @@ module _ (tree : Tree) (c : Context) where
   asks_by holder (stmt.Peek r q comp) fits built none is apart = named comp (λ k. asked.Peek k) (λ k stands. stands) fits.1.1.0 built
   asks_by holder stmt.Yield fits built none is apart = absurd (apart refl)
   asks_by holder _ fits built none is apart = absurd cc
+
+  module _ (numbers : List ℕ) (counted : numbers ≡ comp_numbers 1 tree.decls) (one : Stmt) (can : CanRun tree one) (none : result c.registers c.cells one ≡ None) (is : first c one ≡ calls one) (apart : one ≢ stmt.Yield) where
+    asks_one : (k : Call) × (call_of numbers (stepped c) one ≡ Some k) × CanAsk tree k
+    asks_one =
+        let found = asks_by can.holder one can.fits can.built none is apart in
+        (found.0, ap (λ (ns : List ℕ). call_of ns (stepped c) one) counted ∙ found.1, found.2)
+
+    -- the statement asks for a call
+    pub asks_some : call_of numbers (stepped c) one ≢ None
+    asks_some none_asked = let both : Some asks_one.0 ≡ None = sym asks_one.1 ∙ none_asked in cc
+
+    -- which may be made
+    pub can_ask : (call : Call) → call_of numbers (stepped c) one ≡ Some call → CanAsk tree call
+    can_ask call found =
+        let both : Some asks_one.0 ≡ Some call = sym asks_one.1 ∙ found in
+        let same : asks_one.0 ≡ call = cc in
+        subst (CanAsk tree) same asks_one.2
 
 -- such a call ends no turn, and begins none
 goes_on_by : (tree : Tree) (f : ℕ) (call : Call) (reply : Reply) (birth : Option Birth) → CanAsk tree call → GoesOn (happens f call reply birth) × (is_turn call ≡ false)
@@ -179,20 +198,34 @@ goes_on_by tree f (asked.Complete comp outcome) reply birth can = (refl, refl)
 goes_on_by tree f (asked.Fork text v) reply birth can = (refl, refl)
 goes_on_by tree f _ reply birth can = absurd can
 
--- the entry was made, and the reply has ended the statement
-pub on_made : (p q : Sight (Option Tree)) (a b : Shown) (before now : Option (List ℕ)) (tree : Tree) (spot : Spot) (one : Stmt) (call : Call) (reply : Reply) → IsUp p a → IsBefore a spot one → result a.context.registers a.context.cells one ≡ None
-    → first a.context one ≡ calls one → call_of (comp_numbers 1 (script_in a.program).decls) (stepped a.context) one ≡ Some call → CanAsk tree call → IsMade p q a b before now call reply
-    → IsOn p q a (taken b spot (replied (stepped b.context) one reply)) before now
-on_made p q a b before now tree spot one call reply up here none is asks can made =
-    let f = fiber_of (carry_of a) in
-    let h = happens f call reply (born a.context call) in
-    let e = ends_by_reply (stepped a.context) one reply in
-    let goes = goes_on_by tree f call reply (born a.context call) can in
-    let there : taken b spot (replied (stepped b.context) one reply) ≡ left_by b spot e.exit e.context =
-    ap (λ (c : Context). taken b spot (replied (stepped c) one reply)) made.rest.context ∙ taken_is b spot (stepped a.context) (replied (stepped a.context) one reply) e in
-    let leads = leads_asked a f spot one call reply (own (log p.front f)) here none is asks up.leads in
-    let same : left_by b spot e.exit e.context ≡ record (left_by a spot e.exit e.context) { number = b.number; noted = b.noted; room = b.room } = rw (made.rest.frames, made.lent.birth, made.lent.share) refl in
-    subst (λ (d : Shown). IsOn p q a d before now) (sym there)
-    (on_lent p q a (left_by b spot e.exit e.context) before now h up made.lent refl goes.1 refl goes.0 made.line
-    (subst (λ (d : Shown). LeadsTo d f (own (log p.front f) ++ h ∷ [])) (sym same) leads)
-    (behind_live spot e.exit))
+-- room was made for the entry, and it was made, and the reply has ended the statement
+module _ (p q : Sight (Option Tree)) (before now : Option (List ℕ)) (tree : Tree) (spot : Spot) (one : Stmt) (call : Call) (reply : Reply) (can : CanAsk tree call) where
+  on_made : (a b : Shown) → IsUp p a → IsBefore a spot one → result a.context.registers a.context.cells one ≡ None → first a.context one ≡ calls one
+      → call_of (comp_numbers 1 (script_in a.program).decls) (stepped a.context) one ≡ Some call → IsMade p q a b before now call reply
+      → IsOn p q a (taken b spot (replied (stepped b.context) one reply)) before now
+  on_made a b up here none is asks made =
+      let f = fiber_of (carry_of a) in
+      let h = happens f call reply (born a.context call) in
+      let e = ends_by_reply (stepped a.context) one reply in
+      let goes = goes_on_by tree f call reply (born a.context call) can in
+      let there : taken b spot (replied (stepped b.context) one reply) ≡ left_by b spot e.exit e.context =
+      ap (λ (c : Context). taken b spot (replied (stepped c) one reply)) made.rest.context ∙ taken_is b spot (stepped a.context) (replied (stepped a.context) one reply) e in
+      let same : left_by b spot e.exit e.context ≡ record (left_by a spot e.exit e.context) { number = b.number; noted = b.noted; room = b.room } = rw (made.rest.frames, made.lent.birth, made.lent.share) refl in
+      subst (λ (d : Shown). IsOn p q a d before now) (sym there)
+      (on_lent p q a (left_by b spot e.exit e.context) before now h up made.lent refl goes.1 refl goes.0 made.line
+      (subst (λ (d : Shown). LeadsTo d f (own (log p.front f) ++ h ∷ [])) (sym same) (leads_asked a f spot one call reply (own (log p.front f)) here none is asks up.leads))
+      (behind_live spot e.exit))
+
+  pub on_called : (a b d : Shown) (numbers : List ℕ) → numbers ≡ comp_numbers 1 tree.decls → IsPortOf tree p → IsUp p a → IsBefore a spot one → result a.context.registers a.context.cells one ≡ None → first a.context one ≡ calls one
+      → call_of numbers (stepped a.context) one ≡ Some call → Notes (carry_of a) (carry_of b) [] → IsSameRest a b → IsMade p q b d before now call reply
+      → IsOn p q a (taken d spot (replied (stepped d.context) one reply)) before now
+  on_called a b d numbers counted of up here none is asks notes same_rest made =
+      let on : IsOn p p a b before before = on_reserved p a b before up notes same_rest in
+      let program : tree ≡ script_in b.program = sym (ap script_in (program_up tree p b of on.up)) in
+      let there : b ≡ record a { number = b.number; noted = b.noted; room = b.room } = rw (same_rest.context, same_rest.standing, same_rest.frames, notes.birth, notes.share) refl in
+      let same = sym same_rest.context in
+      on_trans p p q a b (taken d spot (replied (stepped d.context) one reply)) before before now on
+      (on_made b d on.up (subst (λ (z : Shown). IsBefore z spot one) (sym there) (record { here = record { at = here.here.at; is = here.here.is; within = here.here.within }; steps = here.steps }))
+      (subst (λ (c : Context). result c.registers c.cells one ≡ None) same none) (subst (λ (c : Context). first c one ≡ calls one) same is)
+      (subst (λ (t : Tree). call_of (comp_numbers 1 t.decls) (stepped b.context) one ≡ Some call) program
+      (subst (λ (c : Context). call_of (comp_numbers 1 tree.decls) (stepped c) one ≡ Some call) same (ap (λ (ns : List ℕ). call_of ns (stepped a.context) one) (sym counted) ∙ asks))) made)

@@ -51,6 +51,10 @@ can_make port body call up none room names = record {
 
 -- ---- bodies that are up
 
+-- the body's program is the poller's
+pub program_up : (script : Tree) (port : Sight (Option Tree)) (body : Shown) → IsPortOf script port → IsUp port body → body.program ≡ Some script
+program_up script port body of up = up.holds.share up.fiber ∙ of.share
+
 pub same_number : (a b : Shown) → b.number ≡ a.number → fiber_of (carry_of b) ≡ fiber_of (carry_of a)
 same_number a b same = ap (λ (n : Option ℕ). fiber_of (carry_of (record a { number = n }))) same
 

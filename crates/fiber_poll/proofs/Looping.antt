@@ -1,0 +1,50 @@
+-- What stands between two statements of a turn.
+use Rattle.std.proofs.Common.{◌≡◌, ℕ, ◌+◌, ◌≤◌, Option, Some, None, List, length, slice_get, sym, ap, subst, ◌∙◌, arith}
+use Rattle.std.specs.Prelude.{IsTrue}
+use Rattle.std.proofs.lemmas.Option.{slice_get_within}
+use Rattle.pic_machine.specs.Lending.{Calm}
+use Rattle.pic_machine.specs.Sight.{Sight}
+use Rattle.script_tree.specs.declared.program.Stmt.{Stmt}
+use Rattle.script_tree.specs.Tree.{Tree}
+use Rattle.fiber_body.specs.declared.standing.Standing.TheVariants.{At}
+use Rattle.fiber_body.specs.Context.{block_at}
+use Rattle.fiber_body.specs.Shown.{Shown, carry_of}
+use Rattle.fiber_body.specs.Texts.{script_in}
+use Rattle.fiber_poll.specs.Built.{is_built}
+use Rattle.fiber_poll.specs.Moving.{Goes, IsAt, weight}
+use Rattle.fiber_poll.specs.Polls.{IsPortOf}
+use Rattle.fiber_poll.specs.UnderWay.{CanRun, IsOn, IsUp}
+use Rattle.fiber_poll.proofs.Going.{on_gone, on_trans, program_up}
+
+-- a part of the turn went in one block, in which the body stands still
+pub record IsInside (old new : Sight (Option Tree)) (body later : Shown) (before now : Option (List ℕ)) (block place : ℕ) : Type 0 where
+  pub on : IsOn old new body later before now
+  pub calm : Calm old new
+  pub at : later.standing ≡ At block place
+  pub lighter : weight later ≤ weight body
+
+-- the block's statements are the body's
+pub block_up : (script tree : Tree) (port : Sight (Option Tree)) (body : Shown) (ss : List Stmt) (block : ℕ) → IsPortOf script port → IsUp port body → tree ≡ script → ss ≡ block_at tree.blocks block
+    → ss ≡ block_at (script_in body.program).blocks block
+block_up script tree port body ss block of up same stmts =
+    stmts ∙ (ap (λ (t : Tree). block_at t.blocks block) same ∙ ap (λ (p : Option Tree). block_at (script_in p).blocks block) (sym (program_up script port body of up)))
+
+-- the body stands before the statement that was found
+pub at_found : (script tree : Tree) (port : Sight (Option Tree)) (body : Shown) (ss : List Stmt) (block place : ℕ) (s : Stmt) → IsPortOf script port → IsUp port body → tree ≡ script → ss ≡ block_at tree.blocks block
+    → length ss ≤ 10000 → body.standing ≡ At block place → slice_get ss place ≡ Some s → IsAt body (record { block = block; place = place }) s
+at_found script tree port body ss block place s of up same stmts few at is = record {
+  at = at;
+  is = subst (λ (xs : List Stmt). slice_get xs place ≡ Some s) (block_up script tree port body ss block of up same stmts) is;
+  within = (let there = slice_get_within ss place s is in omega (arith, there, few));
+}
+
+-- and that one can be run
+pub can_found : (script tree : Tree) (ss : List Stmt) (block place : ℕ) (s : Stmt) → tree ≡ script → ss ≡ block_at tree.blocks block → IsTrue (is_built script) → slice_get ss place ≡ Some s
+    → (IsTrue (is_built tree) → (k : ℕ) (x : Stmt) → slice_get (block_at tree.blocks block) k ≡ Some x → CanRun tree x) → CanRun script s
+can_found script tree ss block place s same stmts built there can =
+    subst (λ (t : Tree). CanRun t s) same
+    (can (subst (λ (t : Tree). IsTrue (is_built t)) (sym same) built) place s (subst (λ (xs : List Stmt). slice_get xs place ≡ Some s) stmts there))
+
+-- the body went on without a call
+pub on_with : (p q : Sight (Option Tree)) (a b d : Shown) (start now : Option (List ℕ)) → IsOn p q a b start now → Goes b d → IsOn p q a d start now
+on_with p q a b d start now on goes = on_trans p q q a b d start now now on (on_gone q b d now on.up goes)

@@ -1,13 +1,18 @@
 -- What stands between two statements of a turn.
-use Rattle.std.proofs.Common.{◌≡◌, ℕ, ◌+◌, ◌≤◌, Option, Some, None, List, length, slice_get, sym, ap, subst, ◌∙◌, arith}
+use Rattle.std.proofs.Common.{◌≡◌, ◌≢◌, inl, inr, refl, ℕ, ◌+◌, ◌≤◌, Option, Some, None, List, length, slice_get, sym, ap, subst, ◌∙◌, arith}
 use Rattle.std.specs.Prelude.{IsTrue}
 use Rattle.std.proofs.lemmas.Option.{slice_get_within}
 use Rattle.pic_machine.specs.Lending.{Calm}
-use Rattle.pic_machine.specs.Sight.{Sight}
+use Rattle.pic_machine.specs.History.{IsLegal, world}
+use Rattle.pic_machine.specs.Log.{log}
+use Rattle.pic_machine.specs.Sight.{Holds, Sight, fiber_of}
+use Rattle.pic_machine.specs.Step.{MayAct}
+use Rattle.pic_machine.proofs.Ends.{no_end}
 use Rattle.script_tree.specs.declared.program.Stmt.{Stmt}
 use Rattle.script_tree.specs.Tree.{Tree}
 use Rattle.fiber_body.specs.declared.standing.Standing.TheVariants.{At}
 use Rattle.fiber_body.specs.Context.{block_at}
+use Rattle.fiber_body.specs.Fits.{Fits, IsOver, MayBeOf}
 use Rattle.fiber_body.specs.Shown.{Shown, carry_of}
 use Rattle.fiber_body.specs.Texts.{script_in}
 use Rattle.fiber_poll.specs.Built.{is_built}
@@ -48,3 +53,20 @@ can_found script tree ss block place s same stmts built there can =
 -- the body went on without a call
 pub on_with : (p q : Sight (Option Tree)) (a b d : Shown) (start now : Option (List ℕ)) → IsOn p q a b start now → Goes b d → IsOn p q a d start now
 on_with p q a b d start now on goes = on_trans p q q a b d start now now on (on_gone q b d now on.up goes)
+
+-- a fiber that may act hasn't ended
+not_ended : (port : Sight (Option Tree)) (f : ℕ) → IsLegal port.origin port.front → MayAct (world port.origin port.front) f → f ≢ 0 → IsOver f (log port.front f) → ⊥
+not_ended port f legal (inl clock) fiber over = fiber clock
+not_ended port f legal (inr live) fiber over = no_end port.origin port.front f over.before over.outcome legal live over.is
+
+-- a body that fits its fiber's log is up
+pub up_fit : (port : Sight (Option Tree)) (body : Shown) → Holds port (carry_of body) → fiber_of (carry_of body) ≢ 0 → Fits body (log port.front (fiber_of (carry_of body))) → IsUp port body
+up_fit port body holds fiber fits =
+    let f = fiber_of (carry_of body) in
+    let mine : MayBeOf body.number f = subst (λ (n : Option ℕ). MayBeOf n f) (sym holds.number) (refl, fiber) in
+    record {
+      holds = holds;
+      fiber = fiber;
+      leads = fits.stands f mine;
+      live = λ ended. not_ended port f holds.legal holds.acts fiber (fits.over f mine ended);
+    }

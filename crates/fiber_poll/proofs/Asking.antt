@@ -220,11 +220,11 @@ module _ (p q : Sight (Option Tree)) (before now : Option (List ℕ)) (tree : Tr
       → call_of numbers (stepped a.context) one ≡ Some call → Notes (carry_of a) (carry_of b) [] → IsSameRest a b → IsMade p q b d before now call reply
       → IsOn p q a (taken d spot (replied (stepped d.context) one reply)) before now
   on_called a b d numbers counted of up here none is asks notes same_rest made =
-      let on : IsOn p p a b before before = on_reserved p a b before up notes same_rest in
+      let on : IsOn p p a b before before = on_reserved up notes same_rest in
       let program : tree ≡ script_in b.program = sym (ap script_in (program_up tree p b of on.up)) in
       let there : b ≡ record a { number = b.number; noted = b.noted; room = b.room } = rw (same_rest.context, same_rest.standing, same_rest.frames, notes.birth, notes.share) refl in
       let same = sym same_rest.context in
-      on_trans p p q a b (taken d spot (replied (stepped d.context) one reply)) before before now on
+      on_trans on
       (on_made b d on.up (subst (λ (z : Shown). IsBefore z spot one) (sym there) (record { here = record { at = here.here.at; is = here.here.is; within = here.here.within }; steps = here.steps }))
       (subst (λ (c : Context). result c.registers c.cells one ≡ None) same none) (subst (λ (c : Context). first c one ≡ calls one) same is)
       (subst (λ (t : Tree). call_of (comp_numbers 1 t.decls) (stepped b.context) one ≡ Some call) program

@@ -106,8 +106,8 @@ handed_set_back p q a ready moved back final there n told fault answer on is ref
       standing = refl;
       frames = kept.1.frames;
     } in
-    let set : IsOn p q ready final told told = subst (λ (d : Shown). IsOn p q ready d told told) (sym again) (on_spared p q ready (stood back ready.standing ready.context.steps) told on.up kept.0.0 rest) in
-    handed p q a final told told fault answer (on_trans p p q a ready final told told told on set) kept.0.1 how
+    let set : IsOn p q ready final told told = subst (λ (d : Shown). IsOn p q ready d told told) (sym again) (on_spared on.up kept.0.0 rest) in
+    handed p q a final told told fault answer (on_trans on set) kept.0.1 how
 
 -- ---- bodies that the port takes back
 

@@ -35,8 +35,8 @@ allowed_free : (duties : List Duty) (call : Call) → duties ≡ [] → DutiesAl
 allowed_free duties call none = subst (λ (ds : List Duty). DutiesAllow ds call) (sym none) tt
 
 -- a fiber whose body is up owes nothing, so it may make whatever names what stands
-pub can_make : (port : Sight (Option Tree)) (body : Shown) (call : Call) → IsUp port body → port.duties nothing ≡ [] → 0 < body.room → NamesStand (world port.origin port.front) call → CanMake port (carry_of body) call
-can_make port body call up none room names = record {
+pub can_make : {port : Sight (Option Tree)} {body : Shown} {call : Call} → IsUp port body → port.duties nothing ≡ [] → 0 < body.room → NamesStand (world port.origin port.front) call → CanMake port (carry_of body) call
+can_make {port} {body} {call} up none room names = record {
   holds = up.holds;
   may = record {
     allowed = record {
@@ -87,19 +87,19 @@ still_live a b rest live ended = live (sym rest.standing ∙ ended)
 -- ---- parts of a turn
 
 -- one part after another
-pub on_trans : (p q r : Sight (Option Tree)) (a b c : Shown) (start now later : Option (List ℕ)) → IsOn p q a b start now → IsOn q r b c now later → IsOn p r a c start later
-on_trans p q r a b c start now later one two = record {
+pub on_trans : {p q r : Sight (Option Tree)} {a b c : Shown} {start now later : Option (List ℕ)} → IsOn p q a b start now → IsOn q r b c now later → IsOn p r a c start later
+on_trans {p} {q} {r} {a} {b} {c} {start} {now} {later} one two = record {
   went = Went-trans p q r (carry_of a) (carry_of b) (carry_of c) start now later one.went two.went;
   up = two.up;
 }
 
 -- the part begins
-pub on_none : (p : Sight (Option Tree)) (a : Shown) (told : Option (List ℕ)) → IsUp p a → IsOn p p a a told told
-on_none p a told up = record { went = went_none p (carry_of a) told up.holds; up = up }
+pub on_none : {p : Sight (Option Tree)} {a : Shown} {told : Option (List ℕ)} → IsUp p a → IsOn p p a a told told
+on_none {p} {a} {told} up = record { went = went_none p (carry_of a) told up.holds; up = up }
 
 -- the port runs the program still
-pub port_stays : (p q : Sight (Option Tree)) (a b : Shown) (start now : Option (List ℕ)) (script : Tree) → IsPortOf script p → IsOn p q a b start now → IsPortOf script q
-port_stays p q a b start now script of on = port_later script p q of on.went.grew.later.origin on.went.grew.later.share
+pub port_stays : {p q : Sight (Option Tree)} {a b : Shown} {start now : Option (List ℕ)} {script : Tree} → IsPortOf script p → IsOn p q a b start now → IsPortOf script q
+port_stays {p} {q} {script = script} of on = port_later script p q of on.went.grew.later.origin on.went.grew.later.share
 
 -- a body in which nothing was noted is held as before
 holds_noted : {S : Type 0} (p : Sight S) (a b : Carry S) → Holds p a → Notes a b [] → Holds p b
@@ -116,7 +116,7 @@ holds_noted {S} p a b holds notes =
       share = rw same (λ fiber. notes.share ∙ holds.share fiber);
     }
 
-module _ (p : Sight (Option Tree)) (a b : Shown) (told : Option (List ℕ)) where
+module _ {p : Sight (Option Tree)} {a b : Shown} {told : Option (List ℕ)} where
   on_noted : IsUp p a → Notes (carry_of a) (carry_of b) [] → LeadsTo b (fiber_of (carry_of a)) (own (log p.front (fiber_of (carry_of a)))) → b.standing ≢ Ended → IsOn p p a b told told
   on_noted up notes leads live =
       let holds : Holds p (carry_of b) = holds_noted p (carry_of a) (carry_of b) up.holds notes in
@@ -144,7 +144,7 @@ module _ (p : Sight (Option Tree)) (a b : Shown) (told : Option (List ℕ)) wher
       } in
       on_noted up notes (leads_gone a b f (own (log p.front f)) goes up.leads) goes.live
 
-module _ (p q : Sight (Option Tree)) (a b : Shown) (told : Option (List ℕ)) where
+module _ {p q : Sight (Option Tree)} {a b : Shown} {told : Option (List ℕ)} where
   -- a call was refused
   pub on_spared : IsUp p a → Spared p q (carry_of a) (carry_of b) → IsSameRest a b → IsOn p q a b told told
   on_spared up spared rest =

@@ -29,30 +29,30 @@ pub record IsInside (old new : Sight (Option Tree)) (body later : Shown) (before
   pub lighter : weight later ≤ weight body
 
 -- the block's statements are the body's
-pub block_up : (script tree : Tree) (port : Sight (Option Tree)) (body : Shown) (ss : List Stmt) (block : ℕ) → IsPortOf script port → IsUp port body → tree ≡ script → ss ≡ block_at tree.blocks block
+pub block_up : {script tree : Tree} {port : Sight (Option Tree)} {body : Shown} {ss : List Stmt} (block : ℕ) → IsPortOf script port → IsUp port body → tree ≡ script → ss ≡ block_at tree.blocks block
     → ss ≡ block_at (script_in body.program).blocks block
-block_up script tree port body ss block of up same stmts =
+block_up {script} {tree} {port} {body} {ss} block of up same stmts =
     stmts ∙ (ap (λ (t : Tree). block_at t.blocks block) same ∙ ap (λ (p : Option Tree). block_at (script_in p).blocks block) (sym (program_up script port body of up)))
 
 -- the body stands before the statement that was found
-pub at_found : (script tree : Tree) (port : Sight (Option Tree)) (body : Shown) (ss : List Stmt) (block place : ℕ) (s : Stmt) → IsPortOf script port → IsUp port body → tree ≡ script → ss ≡ block_at tree.blocks block
+pub at_found : {script tree : Tree} {port : Sight (Option Tree)} {body : Shown} {ss : List Stmt} {block place : ℕ} {s : Stmt} → IsPortOf script port → IsUp port body → tree ≡ script → ss ≡ block_at tree.blocks block
     → length ss ≤ 10000 → body.standing ≡ At block place → slice_get ss place ≡ Some s → IsAt body (record { block = block; place = place }) s
-at_found script tree port body ss block place s of up same stmts few at is = record {
+at_found {ss = ss} {block = block} {place = place} {s = s} of up same stmts few at is = record {
   at = at;
-  is = subst (λ (xs : List Stmt). slice_get xs place ≡ Some s) (block_up script tree port body ss block of up same stmts) is;
+  is = subst (λ (xs : List Stmt). slice_get xs place ≡ Some s) (block_up block of up same stmts) is;
   within = (let there = slice_get_within ss place s is in omega (arith, there, few));
 }
 
 -- and that one can be run
-pub can_found : (script tree : Tree) (ss : List Stmt) (block place : ℕ) (s : Stmt) → tree ≡ script → ss ≡ block_at tree.blocks block → IsTrue (is_built script) → slice_get ss place ≡ Some s
+pub can_found : {script tree : Tree} {ss : List Stmt} (block place : ℕ) {s : Stmt} → tree ≡ script → ss ≡ block_at tree.blocks block → IsTrue (is_built script) → slice_get ss place ≡ Some s
     → (IsTrue (is_built tree) → (k : ℕ) (x : Stmt) → slice_get (block_at tree.blocks block) k ≡ Some x → CanRun tree x) → CanRun script s
-can_found script tree ss block place s same stmts built there can =
+can_found block place {s} same stmts built there can =
     subst (λ (t : Tree). CanRun t s) same
     (can (subst (λ (t : Tree). IsTrue (is_built t)) (sym same) built) place s (subst (λ (xs : List Stmt). slice_get xs place ≡ Some s) stmts there))
 
 -- the body went on without a call
-pub on_with : (p q : Sight (Option Tree)) (a b d : Shown) (start now : Option (List ℕ)) → IsOn p q a b start now → Goes b d → IsOn p q a d start now
-on_with p q a b d start now on goes = on_trans p q q a b d start now now on (on_gone q b d now on.up goes)
+pub on_with : {p q : Sight (Option Tree)} {a b d : Shown} {start now : Option (List ℕ)} → IsOn p q a b start now → Goes b d → IsOn p q a d start now
+on_with on goes = on_trans on (on_gone on.up goes)
 
 -- a fiber that may act hasn't ended
 not_ended : (port : Sight (Option Tree)) (f : ℕ) → IsLegal port.origin port.front → MayAct (world port.origin port.front) f → f ≢ 0 → IsOver f (log port.front f) → ⊥
@@ -60,8 +60,8 @@ not_ended port f legal (inl clock) fiber over = fiber clock
 not_ended port f legal (inr live) fiber over = no_end port.origin port.front f over.before over.outcome legal live over.is
 
 -- a body that fits its fiber's log is up
-pub up_fit : (port : Sight (Option Tree)) (body : Shown) → Holds port (carry_of body) → fiber_of (carry_of body) ≢ 0 → Fits body (log port.front (fiber_of (carry_of body))) → IsUp port body
-up_fit port body holds fiber fits =
+pub up_fit : {port : Sight (Option Tree)} {body : Shown} → Holds port (carry_of body) → fiber_of (carry_of body) ≢ 0 → Fits body (log port.front (fiber_of (carry_of body))) → IsUp port body
+up_fit {port} {body} holds fiber fits =
     let f = fiber_of (carry_of body) in
     let mine : MayBeOf body.number f = subst (λ (n : Option ℕ). MayBeOf n f) (sym holds.number) (refl, fiber) in
     record {

@@ -24,13 +24,13 @@ returns-then-is_err g c =
     let port = g.P.Port.sight c.args.port.now in
     let told = g.R.ReadyLine.told c.args.line.now in
     let ready : Shown = c.reserve.new.self in
-    handed port port c.args.body ready told told Memory (turn.Memory ready) (on_reserved port c.args.body ready told c.requires.up c.reserve.ensures.notes c.reserve.ensures.rest) refl refl
+    handed port port c.args.body ready told told Memory (turn.Memory ready) (on_reserved c.requires.up c.reserve.ensures.notes c.reserve.ensures.rest) refl refl
 
 pub lay-requires-clause-after : goal.lay-requires-clause-after
 lay-requires-clause-after g c =
     let port = g.P.Port.sight c.args.port.now in
     let ready : Shown = c.reserve.new.self in
-    let on = on_reserved port c.args.body ready None c.requires.up c.reserve.ensures.notes c.reserve.ensures.rest in
+    let on = on_reserved {told = None} c.requires.up c.reserve.ensures.notes c.reserve.ensures.rest in
     fits_yielded port ready on.up c.args.spot c.stand.new.self (before_same c.args.body ready c.args.spot stmt.Yield c.reserve.ensures.rest c.reserve.ensures.notes.share c.requires.before)
     (c.stand.ensures ∙ (ap (λ (st : Standing). stood ready st (c.steps-steps.result - 1)) c.behind.ensures ∙ ap (λ (n : ℕ). stood ready (behind_at c.args.spot Next) (n - 1)) c.steps-steps.ensures))
 
@@ -42,7 +42,7 @@ returns-in-Ok g c =
     let now = g.R.ReadyLine.told c.add.new.self in
     let ready : Shown = c.reserve.new.self in
     let f : ℕ = fiber_of (carry_of ready) in
-    let on = on_reserved port c.args.body ready told c.requires.up c.reserve.ensures.notes c.reserve.ensures.rest in
+    let on = on_reserved c.requires.up c.reserve.ensures.notes c.reserve.ensures.rest in
     let made : Made port later (event f Yield Plain) = subst (λ (d : Shown). Made port later (event (fiber_of (carry_of d)) Yield Plain)) c.stand.ensures c.in-Ok.ensures.yielded in
     let number : f ≡ c.fiber-fiber.result = ap (λ (n : Option ℕ). unwrap_or n 0) c.fiber-fiber.ensures in
     let line : Adds told now (f ∷ []) = subst (λ (n : ℕ). Adds told now (n ∷ [])) (sym number) c.add.ensures in
@@ -58,4 +58,4 @@ returns-in-Err g c =
     let again : c.stand-in-Err.new.self ≡ stood back ready.standing ready.context.steps =
     c.stand-in-Err.ensures ∙ (ap (stood back (At c.args.spot.block c.args.spot.place)) c.steps-steps.ensures ∙ ap (λ (st : Standing). stood back st ready.context.steps) (sym at)) in
     handed_set_back port (g.P.Port.sight c.lay.new.self) c.args.body ready c.stand.new.self back c.stand-in-Err.new.self c.behind.result (c.steps-steps.result - 1) told c.in-Err.fault c.handed_back.result
-    (on_reserved port c.args.body ready told c.requires.up c.reserve.ensures.notes c.reserve.ensures.rest) c.stand.ensures c.in-Err.ensures.none again c.handed_back.ensures
+    (on_reserved c.requires.up c.reserve.ensures.notes c.reserve.ensures.rest) c.stand.ensures c.in-Err.ensures.none again c.handed_back.ensures

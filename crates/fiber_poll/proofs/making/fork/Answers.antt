@@ -11,7 +11,7 @@ use Rattle.fiber_poll.proofs.Going.{on_none, on_refused}
 use Rattle.fiber_poll.proofs.making.fork.Goals as goal
 
 pub returns-in_default-clause-refused : goal.returns-in_default-clause-refused
-returns-in_default-clause-refused g c = on_none (g.P.Port.sight c.args.port.now) c.args.body.now (g.R.ReadyLine.told c.args.line.now) c.requires.up
+returns-in_default-clause-refused g c = on_none c.requires.up
 
 pub fork-requires-clause-child : goal.fork-requires-clause-child
 fork-requires-clause-child g c =
@@ -20,16 +20,12 @@ fork-requires-clause-child g c =
 
 pub returns-in-Err-default-Again-clause-refused : goal.returns-in-Err-default-Again-clause-refused
 returns-in-Err-default-Again-clause-refused g c =
-    let port = g.P.Port.sight c.args.port.now in
-    let later = g.P.Port.sight c.fork.new.self in
-    on_refused port later c.args.body.now c.fork.new.body (g.R.ReadyLine.told c.args.line.now) Again c.requires.up
-    (subst (λ (x : PortFault). RefusesMaking x port later (carry_of c.args.body.now) (carry_of c.fork.new.body) (Fork c.args.text c.args.value)) c.in-Err-default-Again.field-0-1-is c.in-Err-default-Again.ensures.none)
+    on_refused Again c.requires.up
+    (subst (λ (x : PortFault). RefusesMaking x (g.P.Port.sight c.args.port.now) (g.P.Port.sight c.fork.new.self) (carry_of c.args.body.now) (carry_of c.fork.new.body) (Fork c.args.text c.args.value)) c.in-Err-default-Again.field-0-1-is c.in-Err-default-Again.ensures.none)
     c.fork.ensures.rest
 
 pub returns-clause-refused : goal.returns-clause-refused
 returns-clause-refused g c =
-    let port = g.P.Port.sight c.args.port.now in
-    let later = g.P.Port.sight c.fork.new.self in
-    on_refused port later c.args.body.now c.fork.new.body (g.R.ReadyLine.told c.args.line.now) Memory c.requires.up
-    (subst (λ (x : PortFault). RefusesMaking x port later (carry_of c.args.body.now) (carry_of c.fork.new.body) (Fork c.args.text c.args.value)) c.in-Err-default-Memory.field-0-1-is c.in-Err-default-Memory.ensures.none)
+    on_refused Memory c.requires.up
+    (subst (λ (x : PortFault). RefusesMaking x (g.P.Port.sight c.args.port.now) (g.P.Port.sight c.fork.new.self) (carry_of c.args.body.now) (carry_of c.fork.new.body) (Fork c.args.text c.args.value)) c.in-Err-default-Memory.field-0-1-is c.in-Err-default-Memory.ensures.none)
     c.fork.ensures.rest

@@ -15,12 +15,10 @@ unreachable-requires g c =
     asks_some c.args.poller.now c.args.body.now.context c.poller.inside.numbers counted c.args.stmt.now c.requires.can c.requires.not_done c.requires.calls c.requires.no_yield (sym c.call_of.ensures ∙ c.in_default.is)
 
 pub returns-then-is_err-clause-on : goal.returns-then-is_err-clause-on
-returns-then-is_err-clause-on g c =
-    on_reserved (g.P.Port.sight c.args.port.now) c.args.body.now c.reserve.new.self (g.R.ReadyLine.told c.args.line.now) c.requires.up c.reserve.ensures.notes c.reserve.ensures.rest
+returns-then-is_err-clause-on g c = on_reserved c.requires.up c.reserve.ensures.notes c.reserve.ensures.rest
 
 pub make-requires-clause-up : goal.make-requires-clause-up
-make-requires-clause-up g c =
-    (on_reserved (g.P.Port.sight c.args.port.now) c.args.body.now c.reserve.new.self (g.R.ReadyLine.told c.args.line.now) c.requires.up c.reserve.ensures.notes c.reserve.ensures.rest).up
+make-requires-clause-up g c = (on_reserved {told = g.R.ReadyLine.told c.args.line.now} c.requires.up c.reserve.ensures.notes c.reserve.ensures.rest).up
 
 pub make-requires-clause-can : goal.make-requires-clause-can
 make-requires-clause-can g c =

@@ -14,14 +14,11 @@ use Rattle.fiber_poll.proofs.turn.begin.Goals as goal
 
 pub returns-then-steps-eq0-clause-on : goal.returns-then-steps-eq0-clause-on
 returns-then-steps-eq0-clause-on g c =
-    let port = g.P.Port.sight c.args.port.now in
     let body : Shown = c.args.body.now in
-    let told = g.R.ReadyLine.told c.args.line.now in
-    subst (λ (d : Shown). IsOn port port body d told told) (sym c.stand.ensures)
-    (on_gone port body (stood body (Out Spent) 0) told c.requires.up (spent_goes body c.args.spot c.args.stmt.now c.requires.at (sym c.steps.ensures ∙ c.if-steps-eq0.true)))
+    on_gone c.requires.up (subst (Goes body) (sym c.stand.ensures) (spent_goes body c.args.spot c.args.stmt.now c.requires.at (sym c.steps.ensures ∙ c.if-steps-eq0.true)))
 
 pub returns-in-Yield-clause-on : goal.returns-in-Yield-clause-on
-returns-in-Yield-clause-on g c = on_none (g.P.Port.sight c.args.port.now) c.args.body.now (g.R.ReadyLine.told c.args.line.now) c.requires.up
+returns-in-Yield-clause-on g c = on_none c.requires.up
 
 pub call-requires : goal.call-requires
 call-requires g c =
@@ -46,9 +43,7 @@ returns-in_err-call-in-Ok-false-clause-on g c =
 
 pub returns-in-Ok-true-clause-on : goal.returns-in-Ok-true-clause-on
 returns-in-Ok-true-clause-on g c =
-    let port = g.P.Port.sight c.args.port.now in
-    on_gone port c.args.body.now c.enter_block.new.body (g.R.ReadyLine.told c.args.line.now) c.requires.up
-    (subst (λ t. OnTrue t (Goes c.args.body.now c.enter_block.new.body)) c.in-Ok-true.field-0-test c.in-Ok-true.ensures.goes)
+    on_gone c.requires.up (subst (λ t. OnTrue t (Goes c.args.body.now c.enter_block.new.body)) c.in-Ok-true.field-0-test c.in-Ok-true.ensures.goes)
 
 pub returns-in_ok-call-in-Ok-false-clause-on : goal.returns-in_ok-call-in-Ok-false-clause-on
 returns-in_ok-call-in-Ok-false-clause-on g c =
@@ -59,4 +54,4 @@ pub returns-in-Err-clause-on : goal.returns-in-Err-clause-on
 returns-in-Err-clause-on g c =
     let port = g.P.Port.sight c.args.port.now in
     let told = g.R.ReadyLine.told c.args.line.now in
-    subst (λ (z : Shown). IsOn port port c.args.body.now z told told) (sym c.in-Err.ensures.kept) (on_none port c.args.body.now told c.requires.up)
+    subst (λ (z : Shown). IsOn port port c.args.body.now z told told) (sym c.in-Err.ensures.kept) (on_none c.requires.up)

@@ -18,7 +18,7 @@ returns-in-Ok-End g c =
     c.run_on.ensures.on.went c.in-Ok-End.ensures.calm (c.end_turn.ensures (g.R.ReadyLine.told c.run_on.new.line))
 
 pub run_on-requires-clause-up : goal.run_on-requires-clause-up
-run_on-requires-clause-up g c = up_fit (g.P.Port.sight c.args.port.now) c.args.body c.requires.holds c.requires.fiber c.requires.fits
+run_on-requires-clause-up g c = up_fit c.requires.holds c.requires.fiber c.requires.fits
 
 pub returns-in-Err : goal.returns-in-Err
 returns-in-Err g c =

@@ -116,6 +116,7 @@ stopped p q a ready moved there n call before now How on is made within last how
     let h = event (fiber_of (carry_of ready)) call Plain in
     went_stopped p p q (carry_of a) (carry_of ready) before before now How h on.went (subst (λ (d : Shown). Made p q (event (fiber_of (carry_of d)) call Plain)) is made) refl within last how line out
 
+-- the statement is next for a body with the same rest too
 pub before_same : (a b : Shown) (spot : Spot) (one : Stmt) → IsSameRest a b → b.program ≡ a.program → IsBefore a spot one → IsBefore b spot one
 before_same a b spot one rest program before = record {
   here = record {

@@ -1,27 +1,26 @@
 -- Calls of the port with a body that is up, and what the port, or the caller, gets back.
-use Rattle.std.proofs.Common.{◌≡◌, ◌≢◌, ℕ, ◌-◌, ◌<◌, ◌≤◌, false, Option, Some, None, List, [], ◌∷◌, ◌++◌, length, slice_get, refl, sym, ap, subst, ◌∙◌, arith}
+use Rattle.std.proofs.Common.{◌≡◌, ℕ, ◌-◌, ◌<◌, ◌≤◌, true, false, Option, Some, None, List, [], ◌∷◌, ◌++◌, length, slice_get, refl, sym, ap, subst, ◌∙◌, arith}
 use Rattle.pic_base.specs.declared.outcome.Outcome.{Outcome}
 use Rattle.pic_machine.specs.declared.birth.Birth.{Birth}
 use Rattle.pic_machine.specs.declared.entry.Call.{Call}
 use Rattle.pic_machine.specs.declared.entry.Call.TheVariants as asked
 use Rattle.pic_machine.specs.declared.entry.Entry.{Entry}
-use Rattle.pic_machine.specs.declared.entry.Reply.{Reply}
 use Rattle.pic_machine.specs.declared.entry.Reply.TheVariants.{Plain}
 use Rattle.pic_machine.specs.declared.poller.Turn.{Turn}
 use Rattle.pic_machine.specs.declared.port.PortFault.{PortFault}
 use Rattle.pic_machine.specs.declared.port.PortFault.TheVariants.{Full, Again, Memory}
 use Rattle.pic_machine.specs.Happened.{Happened}
 use Rattle.pic_machine.specs.History.{event, world}
-use Rattle.pic_machine.specs.Lending.{Faulted, FitsWith, Refuses}
-use Rattle.pic_machine.specs.Log.{is_hidden, log, own, visible}
-use Rattle.pic_machine.specs.Order.{readied}
+use Rattle.pic_machine.specs.Lending.{Faulted, FitsWith, Made, Refuses}
+use Rattle.pic_machine.specs.Log.{is_hidden, is_turn, log, own, visible}
+use Rattle.pic_machine.specs.Order.{readied_by, stops}
 use Rattle.pic_machine.specs.Sight.{IsChild, Sight, fiber_of}
 use Rattle.pic_machine.specs.Step.{NamesStand}
-use Rattle.pic_machine.specs.Turning.{Adds, Polled}
+use Rattle.pic_machine.specs.Turning.{Adds, Polled, Stopped}
 use Rattle.pic_machine.proofs.Comps.{comps_stay}
 use Rattle.pic_machine.proofs.Histories.{visible-push}
 use Rattle.pic_machine.proofs.Owns.{own-event}
-use Rattle.pic_machine.proofs.Turns.{Adds-nil}
+use Rattle.pic_machine.proofs.Turns.{went_stopped}
 use Rattle.script_tree.specs.declared.program.Stmt.{Stmt}
 use Rattle.script_tree.specs.declared.program.Stmt.TheVariants.{Yield}
 use Rattle.script_tree.specs.Tree.{Tree}
@@ -35,14 +34,12 @@ use Rattle.fiber_body.specs.Framing.{ends_ahead, leads_entry}
 use Rattle.fiber_body.specs.Laws.{fits_led}
 use Rattle.fiber_body.specs.New.{IsNew}
 use Rattle.fiber_body.specs.Phases.{Phase, ending, ends, gone, lives}
-use Rattle.fiber_body.specs.Segments.{happens}
 use Rattle.fiber_body.specs.Shown.{IsSameRest, Shown, carry_of, stood}
-use Rattle.fiber_body.specs.Statements.{born}
 use Rattle.fiber_body.specs.Texts.{block_in, script_in}
 use Rattle.fiber_poll.specs.declared.spot.Spot.{Spot}
 use Rattle.fiber_poll.specs.Moving.{IsBefore, behind_at, taken}
 use Rattle.fiber_poll.specs.Polls.{IsPortOf}
-use Rattle.fiber_poll.specs.UnderWay.{CanAsk, IsHandedBack, IsMade, IsOn, IsUp}
+use Rattle.fiber_poll.specs.UnderWay.{CanAsk, IsHandedBack, IsOn, IsUp}
 use Rattle.fiber_poll.proofs.Asking.{ends_by_reply, leads_asked}
 use Rattle.fiber_poll.proofs.Births.{current_stands}
 use Rattle.fiber_poll.proofs.Going.{leads_same, on_spared, on_trans, same_number}
@@ -97,20 +94,29 @@ module _ (p q : Sight (Option Tree)) (a b : Shown) (before now : Option (List �
   handed Memory answer on why back = subst (λ (t : Turn Shown). Polled t carry_of Fits p q (carry_of a) before now) (sym back) (on.went, on_fits on, why)
 
 -- the body was to stand elsewhere; it was refused, and is handed back where it stood
-pub handed_set_back : (p q : Sight (Option Tree)) (a ready moved back final : Shown) (there : Standing) (n : ℕ) (told : Option (List ℕ)) (fault : PortFault) (answer : Turn Shown) → IsOn p p a ready told told → moved ≡ stood ready there n
-    → Refuses fault p q (carry_of moved) (carry_of back) × IsSameRest moved back → final ≡ stood back ready.standing ready.context.steps → IsHandedBack fault final answer → Polled answer carry_of Fits p q (carry_of a) told told
-handed_set_back p q a ready moved back final there n told fault answer on is refused again how =
-    let kept = subst (λ (d : Shown). Refuses fault p q (carry_of d) (carry_of back) × IsSameRest d back) is refused in
-    let rest : IsSameRest ready (stood back ready.standing ready.context.steps) = record {
-      context = ap (λ (c : Context). record c { steps = ready.context.steps }) kept.1.context;
-      standing = refl;
+pub handed_set_back : (p q : Sight (Option Tree)) (a ready moved back final : Shown) (there standing : Standing) (n steps : ℕ) (told : Option (List ℕ)) (fault : PortFault) (answer : Turn Shown) → IsOn p p a ready told told → moved ≡ stood ready there n
+    → Refuses fault p q (carry_of moved) (carry_of back) × IsSameRest moved back → ready.standing ≡ standing → steps ≡ ready.context.steps → final ≡ stood back standing steps → IsHandedBack fault final answer → Polled answer carry_of Fits p q (carry_of a) told told
+handed_set_back p q a ready moved back final there standing n steps told fault answer on moved_is refused at left again how =
+    let kept = subst (λ (d : Shown). Refuses fault p q (carry_of d) (carry_of back) × IsSameRest d back) moved_is refused in
+    let rest : IsSameRest ready (stood back standing steps) = record {
+      context = ap (λ (c : Context). record c { steps = steps }) kept.1.context ∙ ap (λ (k : ℕ). record ready.context { steps = k }) left;
+      standing = sym at;
       frames = kept.1.frames;
     } in
-    let set : IsOn p q ready final told told = subst (λ (d : Shown). IsOn p q ready d told told) (sym again) (on_spared on.up kept.0.0 rest) in
-    handed p q a final told told fault answer (on_trans on set) kept.0.1 how
+    let set : IsOn p q ready final told told = subst (λ (d : Shown). IsOn p q ready d told told) (sym again) (on_spared p q ready (stood back standing steps) told on.up kept.0.0 rest) in
+    handed p q a final told told fault answer (on_trans p p q a ready final told told told on set) kept.0.1 how
 
 -- ---- bodies that the port takes back
 
+-- the turn is over
+pub stopped : (p q : Sight (Option Tree)) (a ready moved : Shown) (there : Standing) (n : ℕ) (call : Call) (before now : Option (List ℕ)) (How : Happened → Type 0) → IsOn p p a ready before before → moved ≡ stood ready there n
+    → Made p q (event (fiber_of (carry_of moved)) call Plain) → is_turn call ≡ false → stops call Plain ≡ true → How (event (fiber_of (carry_of ready)) call Plain) → Adds before now (readied_by (fiber_of (carry_of ready)) call Plain ++ []) → q.out ≡ None
+    → Stopped p q (fiber_of (carry_of a)) before now How
+stopped p q a ready moved there n call before now How on is made within last how line out =
+    let h = event (fiber_of (carry_of ready)) call Plain in
+    went_stopped p p q (carry_of a) (carry_of ready) before before now How h on.went (subst (λ (d : Shown). Made p q (event (fiber_of (carry_of d)) call Plain)) is made) refl within last how line out
+
+-- the statement is next for a body with the same rest too
 pub before_same : (a b : Shown) (spot : Spot) (one : Stmt) → IsSameRest a b → b.program ≡ a.program → IsBefore a spot one → IsBefore b spot one
 before_same a b spot one rest program before = record {
   here = record {
@@ -142,10 +148,10 @@ module _ (port : Sight (Option Tree)) (a : Shown) (up : IsUp port a) where
       (λ ended. over (sym rest.standing ∙ ended))
 
   -- behind its yield
-  pub fits_yielded : (spot : Spot) (d : Shown) → IsBefore a spot Yield → d ≡ stood a (behind_at spot Next) (a.context.steps - 1) → TakesBack d asked.Yield
-  fits_yielded spot d before is =
+  pub fits_yielded : (spot : Spot) (d : Shown) (there : Standing) (n : ℕ) → IsBefore a spot Yield → there ≡ behind_at spot Next → n ≡ a.context.steps → d ≡ stood a there (n - 1) → TakesBack d asked.Yield
+  fits_yielded spot d there n before behind_is left is =
       let e = ends_by_reply (stepped a.context) Yield Plain in
-      subst (λ (x : Shown). TakesBack x asked.Yield) (sym is)
+      subst (λ (x : Shown). TakesBack x asked.Yield) (sym (is ∙ (ap (λ (st : Standing). stood a st (n - 1)) behind_is ∙ ap (λ (k : ℕ). stood a (behind_at spot Next) (k - 1)) left)))
       (taken_back (behind_at spot Next) (a.context.steps - 1) asked.Yield refl
       (subst (λ (p : Phase). LeadsTo (taken a spot p) f (own hs ++ event f asked.Yield Plain ∷ [])) (sym e.is) (leads_asked a f spot Yield asked.Yield Plain (own hs) before refl refl refl up.leads))
       (λ ended. absurd cc))
@@ -158,7 +164,7 @@ module _ (port : Sight (Option Tree)) (a : Shown) (up : IsUp port a) where
       leads_entry s (lives (block_in a.program a.birth.text)) (context_of a.birth) (own hs) [] {p = ending outcome ends} {q = ending outcome gone} {c = a.context} (asked.End outcome) Plain refl refl there tail y d
       (ends_ahead s {p = ending outcome gone} [] refl tail y d ahead)
 
-  pub fits_ended : (outcome : Outcome) (d : Shown) → a.standing ≡ Ending outcome → d ≡ stood a Ended a.context.steps → TakesBack d (asked.End outcome)
-  fits_ended outcome d ending_is is =
-      subst (λ (x : Shown). TakesBack x (asked.End outcome)) (sym is)
+  pub fits_ended : (outcome : Outcome) (d : Shown) (n : ℕ) → a.standing ≡ Ending outcome → n ≡ a.context.steps → d ≡ stood a Ended n → TakesBack d (asked.End outcome)
+  fits_ended outcome d n ending_is left is =
+      subst (λ (x : Shown). TakesBack x (asked.End outcome)) (sym (is ∙ ap (stood a Ended) left))
       (taken_back Ended a.context.steps (asked.End outcome) refl (ending_leads outcome ending_is) (λ ended. record { before = hs; outcome = outcome; is = refl }))

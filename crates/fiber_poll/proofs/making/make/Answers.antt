@@ -1,5 +1,4 @@
 use Rattle.std.proofs.Common.{OnErr, Result, Ok, Err, subst}
-use Rattle.pic_machine.specs.declared.entry.Call.{Call}
 use Rattle.pic_machine.specs.declared.entry.Call.TheVariants.{Complete, Peek}
 use Rattle.fiber_poll.specs.UnderWay.{CanAsk}
 use Rattle.fiber_poll.proofs.Giving.{names_stand}

@@ -47,7 +47,7 @@ use Rattle.fiber_poll.proofs.Moves.{stands_at}
 
 -- ---- calls behind which the turn goes on
 
-module _ (script : Tree) (port : Sight (Option Tree)) (of : IsPortOf script port) where
+module _ {script : Tree} {port : Sight (Option Tree)} (of : IsPortOf script port) where
   -- a computation that is declared stands
   comp_stands : (comp : ℕ) → comp ≤ length script.decls → comp < length (world port.origin port.front).comps
   comp_stands comp there = let stay = comps_stay port.origin port.front in let few = of.comps in omega (arith, there, stay, few)
@@ -58,8 +58,8 @@ module _ (script : Tree) (port : Sight (Option Tree)) (of : IsPortOf script port
   names_stand _ can = tt
 
   -- a new body of the program, with the current computation of one that is up, may become a child
-  pub is_child : (body child : Shown) (birth : Birth) → IsUp port body → birth.current ≡ body.birth.current → IsNew child (Some script) birth None → IsChild port (carry_of child) birth.text birth.value
-  is_child body child birth up same new =
+  pub is_child : {body child : Shown} (birth : Birth) → IsUp port body → birth.current ≡ body.birth.current → IsNew child (Some script) birth None → IsChild port (carry_of child) birth.text birth.value
+  is_child {body} {child} birth up same new =
       let n = length (world port.origin port.front).comps in
       let stands = current_stands port.origin port.front (fiber_of (carry_of body)) body.birth up.holds.legal of.main (up.holds.birth up.fiber) in
       record {
@@ -83,8 +83,8 @@ fits_as body f hs number noted leads over =
     (λ g mine. subst (λ (n : ℕ). LeadsTo body n (own hs)) (same_fiber body.number f g number mine) leads)
     (λ g mine ended. subst (λ (n : ℕ). IsOver n hs) (same_fiber body.number f g number mine) (over ended))
 
-module _ (p q : Sight (Option Tree)) (a b : Shown) (before now : Option (List ℕ)) where
-  pub on_fits : IsOn p q a b before now → Fits b (log q.front (fiber_of (carry_of a)))
+module _ {p q : Sight (Option Tree)} {a b : Shown} {before now : Option (List ℕ)} where
+  on_fits : IsOn p q a b before now → Fits b (log q.front (fiber_of (carry_of a)))
   on_fits on = subst (λ (n : ℕ). Fits b (log q.front n)) (same_number a b on.went.number)
       (let f = fiber_of (carry_of b) in fits_as b f (log q.front f) on.up.holds.number on.up.holds.noted on.up.leads (λ ended. absurd (on.up.live ended)))
 
@@ -94,31 +94,31 @@ module _ (p q : Sight (Option Tree)) (a b : Shown) (before now : Option (List �
   handed Memory answer on why back = subst (λ (t : Turn Shown). Polled t carry_of Fits p q (carry_of a) before now) (sym back) (on.went, on_fits on, why)
 
 -- the body was to stand elsewhere; it was refused, and is handed back where it stood
-pub handed_set_back : (p q : Sight (Option Tree)) (a ready moved back final : Shown) (there standing : Standing) (n steps : ℕ) (told : Option (List ℕ)) (fault : PortFault) (answer : Turn Shown) → IsOn p p a ready told told → moved ≡ stood ready there n
+pub handed_set_back : {p q : Sight (Option Tree)} {a ready moved back final : Shown} {told : Option (List ℕ)} (there standing : Standing) (n steps : ℕ) (fault : PortFault) (answer : Turn Shown) → IsOn p p a ready told told → moved ≡ stood ready there n
     → Refuses fault p q (carry_of moved) (carry_of back) × IsSameRest moved back → ready.standing ≡ standing → steps ≡ ready.context.steps → final ≡ stood back standing steps → IsHandedBack fault final answer → Polled answer carry_of Fits p q (carry_of a) told told
-handed_set_back p q a ready moved back final there standing n steps told fault answer on moved_is refused at left again how =
+handed_set_back {p} {q} {a} {ready} {back = back} {final = final} {told = told} there standing n steps fault answer on moved_is refused at left again how =
     let kept = subst (λ (d : Shown). Refuses fault p q (carry_of d) (carry_of back) × IsSameRest d back) moved_is refused in
     let rest : IsSameRest ready (stood back standing steps) = record {
       context = ap (λ (c : Context). record c { steps = steps }) kept.1.context ∙ ap (λ (k : ℕ). record ready.context { steps = k }) left;
       standing = sym at;
       frames = kept.1.frames;
     } in
-    let set : IsOn p q ready final told told = subst (λ (d : Shown). IsOn p q ready d told told) (sym again) (on_spared p q ready (stood back standing steps) told on.up kept.0.0 rest) in
-    handed p q a final told told fault answer (on_trans p p q a ready final told told told on set) kept.0.1 how
+    let set : IsOn p q ready final told told = subst (λ (d : Shown). IsOn p q ready d told told) (sym again) (on_spared on.up kept.0.0 rest) in
+    handed fault answer (on_trans on set) kept.0.1 how
 
 -- ---- bodies that the port takes back
 
 -- the turn is over
-pub stopped : (p q : Sight (Option Tree)) (a ready moved : Shown) (there : Standing) (n : ℕ) (call : Call) (before now : Option (List ℕ)) (How : Happened → Type 0) → IsOn p p a ready before before → moved ≡ stood ready there n
+pub stopped : {p q : Sight (Option Tree)} {a ready moved : Shown} {before now : Option (List ℕ)} (there : Standing) (n : ℕ) (call : Call) (How : Happened → Type 0) → IsOn p p a ready before before → moved ≡ stood ready there n
     → Made p q (event (fiber_of (carry_of moved)) call Plain) → is_turn call ≡ false → stops call Plain ≡ true → How (event (fiber_of (carry_of ready)) call Plain) → Adds before now (readied_by (fiber_of (carry_of ready)) call Plain ++ []) → q.out ≡ None
     → Stopped p q (fiber_of (carry_of a)) before now How
-stopped p q a ready moved there n call before now How on is made within last how line out =
+stopped {p} {q} {a} {ready} {before = before} {now = now} there n call How on is made within last how line out =
     let h = event (fiber_of (carry_of ready)) call Plain in
     went_stopped p p q (carry_of a) (carry_of ready) before before now How h on.went (subst (λ (d : Shown). Made p q (event (fiber_of (carry_of d)) call Plain)) is made) refl within last how line out
 
 -- the statement is next for a body with the same rest too
-pub before_same : (a b : Shown) (spot : Spot) (one : Stmt) → IsSameRest a b → b.program ≡ a.program → IsBefore a spot one → IsBefore b spot one
-before_same a b spot one rest program before = record {
+pub before_same : {a b : Shown} {spot : Spot} {one : Stmt} → IsSameRest a b → b.program ≡ a.program → IsBefore a spot one → IsBefore b spot one
+before_same {spot = spot} {one = one} rest program before = record {
   here = record {
     at = rest.standing ∙ before.here.at;
     is = subst (λ (p : Option Tree). slice_get (block_at (script_in p).blocks spot.block) spot.place ≡ Some one) (sym program) before.here.is;
@@ -127,7 +127,7 @@ before_same a b spot one rest program before = record {
   steps = subst (λ (c : Context). 0 < c.steps) (sym rest.context) before.steps;
 }
 
-module _ (port : Sight (Option Tree)) (a : Shown) (up : IsUp port a) where
+module _ {port : Sight (Option Tree)} {a : Shown} (up : IsUp port a) where
   abbrev f : ℕ
   f = fiber_of (carry_of a)
 
@@ -148,8 +148,8 @@ module _ (port : Sight (Option Tree)) (a : Shown) (up : IsUp port a) where
       (λ ended. over (sym rest.standing ∙ ended))
 
   -- behind its yield
-  pub fits_yielded : (spot : Spot) (d : Shown) (there : Standing) (n : ℕ) → IsBefore a spot Yield → there ≡ behind_at spot Next → n ≡ a.context.steps → d ≡ stood a there (n - 1) → TakesBack d asked.Yield
-  fits_yielded spot d there n before behind_is left is =
+  pub fits_yielded : (spot : Spot) {d : Shown} (there : Standing) (n : ℕ) → IsBefore a spot Yield → there ≡ behind_at spot Next → n ≡ a.context.steps → d ≡ stood a there (n - 1) → TakesBack d asked.Yield
+  fits_yielded spot there n before behind_is left is =
       let e = ends_by_reply (stepped a.context) Yield Plain in
       subst (λ (x : Shown). TakesBack x asked.Yield) (sym (is ∙ (ap (λ (st : Standing). stood a st (n - 1)) behind_is ∙ ap (λ (k : ℕ). stood a (behind_at spot Next) (k - 1)) left)))
       (taken_back (behind_at spot Next) (a.context.steps - 1) asked.Yield refl
@@ -164,7 +164,7 @@ module _ (port : Sight (Option Tree)) (a : Shown) (up : IsUp port a) where
       leads_entry s (lives (block_in a.program a.birth.text)) (context_of a.birth) (own hs) [] {p = ending outcome ends} {q = ending outcome gone} {c = a.context} (asked.End outcome) Plain refl refl there tail y d
       (ends_ahead s {p = ending outcome gone} [] refl tail y d ahead)
 
-  pub fits_ended : (outcome : Outcome) (d : Shown) (n : ℕ) → a.standing ≡ Ending outcome → n ≡ a.context.steps → d ≡ stood a Ended n → TakesBack d (asked.End outcome)
-  fits_ended outcome d n ending_is left is =
+  pub fits_ended : (outcome : Outcome) {d : Shown} (n : ℕ) → a.standing ≡ Ending outcome → n ≡ a.context.steps → d ≡ stood a Ended n → TakesBack d (asked.End outcome)
+  fits_ended outcome n ending_is left is =
       subst (λ (x : Shown). TakesBack x (asked.End outcome)) (sym (is ∙ ap (stood a Ended) left))
       (taken_back Ended a.context.steps (asked.End outcome) refl (ending_leads outcome ending_is) (λ ended. record { before = hs; outcome = outcome; is = refl }))

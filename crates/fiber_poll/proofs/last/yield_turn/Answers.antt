@@ -13,36 +13,23 @@ use Rattle.fiber_poll.proofs.Going.{on_reserved}
 use Rattle.fiber_poll.proofs.last.yield_turn.Goals as goal
 
 pub returns-then-is_err : goal.returns-then-is_err
-returns-then-is_err g c =
-    let port = g.P.Port.sight c.args.port.now in
-    let told = g.R.ReadyLine.told c.args.line.now in
-    let ready : Shown = c.reserve.new.self in
-    handed port port c.args.body ready told told Memory (turn.Memory ready) (on_reserved port c.args.body ready told c.requires.up c.reserve.ensures.notes c.reserve.ensures.rest) refl refl
+returns-then-is_err g c = handed Memory (turn.Memory c.reserve.new.self) (on_reserved {told = g.R.ReadyLine.told c.args.line.now} c.requires.up c.reserve.ensures.notes c.reserve.ensures.rest) refl refl
 
 pub lay-requires-clause-after : goal.lay-requires-clause-after
 lay-requires-clause-after g c =
-    let port = g.P.Port.sight c.args.port.now in
-    let ready : Shown = c.reserve.new.self in
-    let on = on_reserved port c.args.body ready None c.requires.up c.reserve.ensures.notes c.reserve.ensures.rest in
-    fits_yielded port ready on.up c.args.spot c.stand.new.self c.behind.result c.steps-steps.result
-    (before_same c.args.body ready c.args.spot stmt.Yield c.reserve.ensures.rest c.reserve.ensures.notes.share c.requires.before) c.behind.ensures c.steps-steps.ensures c.stand.ensures
+    let on = on_reserved {told = None} c.requires.up c.reserve.ensures.notes c.reserve.ensures.rest in
+    fits_yielded on.up c.args.spot c.behind.result c.steps-steps.result (before_same c.reserve.ensures.rest c.reserve.ensures.notes.share c.requires.before) c.behind.ensures c.steps-steps.ensures c.stand.ensures
 
 pub returns-in-Ok : goal.returns-in-Ok
 returns-in-Ok g c =
-    let port = g.P.Port.sight c.args.port.now in
     let told = g.R.ReadyLine.told c.args.line.now in
-    let now = g.R.ReadyLine.told c.add.new.self in
-    let ready : Shown = c.reserve.new.self in
-    let number : fiber_of (carry_of ready) ≡ c.fiber-fiber.result = ap (λ (n : Option ℕ). unwrap_or n 0) c.fiber-fiber.ensures in
-    stopped port (g.P.Port.sight c.lay.new.self) c.args.body ready c.stand.new.self c.behind.result (c.steps-steps.result - 1) Yield told now (λ h. YieldsSo h.entry.call)
-    (on_reserved port c.args.body ready told c.requires.up c.reserve.ensures.notes c.reserve.ensures.rest) c.stand.ensures c.in-Ok.ensures.yielded refl refl tt
-    (subst (λ (n : ℕ). Adds told now (n ∷ [])) (sym number) c.add.ensures) c.in-Ok.ensures.out
+    let on = on_reserved {told = told} c.requires.up c.reserve.ensures.notes c.reserve.ensures.rest in
+    let number : fiber_of (carry_of c.reserve.new.self) ≡ c.fiber-fiber.result = ap (λ (n : Option ℕ). unwrap_or n 0) c.fiber-fiber.ensures in
+    stopped c.behind.result (c.steps-steps.result - 1) Yield (λ h. YieldsSo h.entry.call) on c.stand.ensures c.in-Ok.ensures.yielded refl refl tt
+    (subst (λ (n : ℕ). Adds told (g.R.ReadyLine.told c.add.new.self) (n ∷ [])) (sym number) c.add.ensures) c.in-Ok.ensures.out
 
 pub returns-in-Err : goal.returns-in-Err
 returns-in-Err g c =
-    let port = g.P.Port.sight c.args.port.now in
-    let told = g.R.ReadyLine.told c.args.line.now in
-    let ready : Shown = c.reserve.new.self in
-    handed_set_back port (g.P.Port.sight c.lay.new.self) c.args.body ready c.stand.new.self c.in-Err.body c.stand-in-Err.new.self c.behind.result (At c.args.spot.block c.args.spot.place) (c.steps-steps.result - 1) c.steps-steps.result told
-    c.in-Err.fault c.handed_back.result (on_reserved port c.args.body ready told c.requires.up c.reserve.ensures.notes c.reserve.ensures.rest) c.stand.ensures c.in-Err.ensures.none
+    let on = on_reserved {told = g.R.ReadyLine.told c.args.line.now} c.requires.up c.reserve.ensures.notes c.reserve.ensures.rest in
+    handed_set_back c.behind.result (At c.args.spot.block c.args.spot.place) (c.steps-steps.result - 1) c.steps-steps.result c.in-Err.fault c.handed_back.result on c.stand.ensures c.in-Err.ensures.none
     (c.reserve.ensures.rest.standing ∙ c.requires.before.here.at) c.steps-steps.ensures c.stand-in-Err.ensures c.handed_back.ensures

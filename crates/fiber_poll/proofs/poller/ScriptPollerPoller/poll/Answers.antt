@@ -21,6 +21,4 @@ pub run_on-requires-clause-up : goal.run_on-requires-clause-up
 run_on-requires-clause-up g c = up_fit c.requires.holds c.requires.fiber c.requires.fits
 
 pub returns-in-Err : goal.returns-in-Err
-returns-in-Err g c =
-    handed (g.P.Port.sight c.args.port.now) (g.P.Port.sight c.run_on.new.port) c.args.body c.run_on.new.body (g.R.ReadyLine.told c.args.line.now) (g.R.ReadyLine.told c.run_on.new.line)
-    c.in-Err.fault c.handed_back.result c.run_on.ensures.on c.in-Err.ensures.gave_up c.handed_back.ensures
+returns-in-Err g c = handed c.in-Err.fault c.handed_back.result c.run_on.ensures.on c.in-Err.ensures.gave_up c.handed_back.ensures

@@ -22,10 +22,7 @@ use Rattle.fiber_body.specs.Tables.{catches, closing, ends_by, ends_text, goes_i
 use Rattle.fiber_body.specs.Texts.{script_in}
 use Rattle.fiber_poll.specs.declared.spot.Spot.{Spot}
 use Rattle.fiber_poll.specs.Moving.{Goes, IsAt, IsBefore, behind_at, chosen, entered, passed, round_of}
-use Rattle.fiber_poll.proofs.Moves.{behind, behind_live, costly, framed, headed, round_row, stands_at}
-
-from_there : (a b : Shown) (there : Standing) → a.standing ≡ there → Goes (stood a there a.context.steps) b → Goes a b
-from_there a b there is goes = subst (λ (x : Shown). Goes x b) (sym (stands_at a there is)) goes
+use Rattle.fiber_poll.proofs.Moves.{behind, begun_goes, ends_goes, framed, goes_by, headed, round_row, stands_at}
 
 -- ---- entering
 
@@ -34,51 +31,22 @@ module _ (a : Shown) (spot : Spot) where
   pub branch_goes : (left right : Operand) (test : Test) (then block : ℕ) (other : Option ℕ) → IsBefore a spot (stmt.If left test right then other) → chosen a.context left test right then other ≡ Some block
       → Goes a (entered a spot [] block)
   branch_goes left right test then block other before some =
-      let one = stmt.If left test right then other in
-      let c = a.context in
-      let row : settles (stepped c) (branches (chosen c left test right then other)) ≡ Some (goes_into block (stepped c)) = ap (λ (o : Option ℕ). settles (stepped c) (branches o)) some in
-      from_there a (entered a spot [] block) (At spot.block spot.place) before.here.at (record {
-        same = refl;
-        turns = λ f tail y e ahead. let s = setting_of a f in
-            costly s spot a.frames one c tt before.here.is before.steps tail y e (goes_ahead s (rest spot.block (spot.place + 1) ∷ framed a.frames) row tail y e ahead);
-        live = λ q. cc;
-      })
+      let row : settles (stepped a.context) (branches (chosen a.context left test right then other)) ≡ Some (goes_into block (stepped a.context)) = ap (λ (o : Option ℕ). settles (stepped a.context) (branches o)) some in
+      begun_goes before tt refl (λ q. cc) (λ f. goes_ahead (setting_of a f) (rest spot.block (spot.place + 1) ∷ framed a.frames) row)
 
   -- or none
   pub no_branch_goes : (left right : Operand) (test : Test) (then : ℕ) (other : Option ℕ) → IsBefore a spot (stmt.If left test right then other) → chosen a.context left test right then other ≡ None
       → Goes a (stood a (behind_at spot Next) (a.context.steps - 1))
   no_branch_goes left right test then other before none =
-      let one = stmt.If left test right then other in
-      let c = a.context in
-      let row : settles (stepped c) (branches (chosen c left test right then other)) ≡ Some (ends_by Next (stepped c)) = ap (λ (o : Option ℕ). settles (stepped c) (branches o)) none in
-      from_there a (stood a (behind_at spot Next) (a.context.steps - 1)) (At spot.block spot.place) before.here.at (record {
-        same = refl;
-        turns = λ f tail y e ahead. let s = setting_of a f in
-            costly s spot a.frames one c tt before.here.is before.steps tail y e
-            (ends_ahead s (rest spot.block (spot.place + 1) ∷ framed a.frames) row tail y e (behind s spot a.frames Next (stepped c) tail y e ahead));
-        live = λ q. cc;
-      })
+      ends_goes Next (record a { context = stepped a.context }) before tt refl (ap (λ (o : Option ℕ). settles (stepped a.context) (branches o)) none)
 
   pub loop_goes : (block : ℕ) → IsBefore a spot (stmt.Loop block) → Goes a (entered a spot (Repeats block ∷ []) block)
-  loop_goes block before =
-      let c = a.context in
-      from_there a (entered a spot (Repeats block ∷ []) block) (At spot.block spot.place) before.here.at (record {
-        same = refl;
-        turns = λ f tail y e ahead. let s = setting_of a f in
-            begins_ahead s (stmt.Loop block) spot.block spot.place (framed a.frames) c (at_place (block_at s.script.blocks spot.block) spot.place (stmt.Loop block) before.here.is) tt tail y e
-            (enters_ahead s (rest spot.block (spot.place + 1) ∷ framed a.frames) (round_row block c before.steps) tail y e ahead);
-        live = λ q. cc;
-      })
+  loop_goes block before = goes_by (At spot.block spot.place) before.here.at refl (λ q. cc) (λ f tail y e ahead. let s = setting_of a f in
+      begins_ahead s (stmt.Loop block) spot.block spot.place (framed a.frames) a.context (at_place (block_at s.script.blocks spot.block) spot.place (stmt.Loop block) before.here.is) tt tail y e
+      (enters_ahead s (rest spot.block (spot.place + 1) ∷ framed a.frames) (round_row block a.context before.steps) tail y e ahead))
 
   pub try_goes : (block register handler : ℕ) → IsBefore a spot (stmt.Try block register handler) → Goes a (entered a spot (Catches register handler ∷ []) block)
-  try_goes block register handler before =
-      from_there a (entered a spot (Catches register handler ∷ []) block) (At spot.block spot.place) before.here.at (record {
-        same = refl;
-        turns = λ f tail y e ahead. let s = setting_of a f in
-            costly s spot a.frames (stmt.Try block register handler) a.context tt before.here.is before.steps tail y e
-            (enters_ahead s (rest spot.block (spot.place + 1) ∷ framed a.frames) refl tail y e ahead);
-        live = λ q. cc;
-      })
+  try_goes block register handler before = begun_goes before tt refl (λ q. cc) (λ f. enters_ahead (setting_of a f) (rest spot.block (spot.place + 1) ∷ framed a.frames) refl)
 
   -- no step is left
   pub spent_goes : (one : Stmt) → IsAt a spot one → a.context.steps ≡ 0 → Goes a (stood a (Out Spent) 0)
@@ -102,37 +70,23 @@ module _ (a : Shown) (spot : Spot) where
 
 -- a block has come to its end
 pub end_goes : (a : Shown) (block place : ℕ) → a.standing ≡ At block place → slice_get (block_at (script_in a.program).blocks block) place ≡ None → Goes a (stood a (Out Next) a.context.steps)
-end_goes a block place at past =
-    from_there a (stood a (Out Next) a.context.steps) (At block place) at (record {
-      same = refl;
-      turns = λ f. let s = setting_of a f in end_ahead s block place (framed a.frames) a.context (past_end (block_at s.script.blocks block) place past);
-      live = λ q. cc;
-    })
+end_goes a block place at past = goes_by (At block place) at refl (λ q. cc) (λ f. let s = setting_of a f in
+    end_ahead s block place (framed a.frames) a.context (past_end (block_at s.script.blocks block) place past))
 
 -- ---- leaving
 
 -- the text is left
 pub text_goes : (a : Shown) (x : Exit) → a.standing ≡ Out x → a.frames ≡ [] → Goes a (stood a (Ending (outcome_of x a.context)) a.context.steps)
-text_goes a x at none =
-    let o = outcome_of x a.context in
-    from_there a (stood a (Ending o) a.context.steps) (Out x) at (record {
-      same = refl;
-      turns = λ f. let s = setting_of a f in
-          subst (λ (frames : List Frame). Turns s (out x) (framed frames) a.context (place_of (Ending o)) [] a.context) (sym none) (closes_ahead s ends_text [] x a.context);
-      live = λ q. cc;
-    })
+text_goes a x at none = goes_by (Out x) at refl (λ q. cc) (λ f. let s = setting_of a f in
+    subst (λ (frames : List Frame). Turns s (out x) (framed frames) a.context (place_of (Ending (outcome_of x a.context))) [] a.context) (sym none) (closes_ahead s ends_text [] x a.context))
 
 -- a loop goes round
 pub again_goes : (a : Shown) (block : ℕ) → a.standing ≡ Out Next → slice_get a.frames 0 ≡ Some (Repeats block) → 0 < a.context.steps → Goes a (stood a (At block 0) (a.context.steps - 1))
 again_goes a block at first some =
     let found = headed a.frames (Repeats block) first in
-    from_there a (stood a (At block 0) (a.context.steps - 1)) (Out Next) at (record {
-      same = refl;
-      turns = λ f. let s = setting_of a f in
-          subst (λ (frames : List Frame). Turns s (out Next) (framed frames) a.context (at_stmt block 0) (framed frames) (stepped a.context)) (sym found.1)
-          (λ tail y e ahead. closes_ahead s (repeats block) (framed found.0) Next a.context tail y e (enters_ahead s (framed found.0) (round_row block a.context some) tail y e ahead));
-      live = λ q. cc;
-    })
+    goes_by (Out Next) at refl (λ q. cc) (λ f. let s = setting_of a f in
+    subst (λ (frames : List Frame). Turns s (out Next) (framed frames) a.context (at_stmt block 0) (framed frames) (stepped a.context)) (sym found.1)
+    (λ tail y e ahead. closes_ahead s (repeats block) (framed found.0) Next a.context tail y e (enters_ahead s (framed found.0) (round_row block a.context some) tail y e ahead)))
 
 no_round : (block : ℕ) (n : ℕ) (c : Context) → n ≡ 0 → c.steps ≡ n → settles c (repeating block Next) ≡ Some (ends_by Spent c)
 no_round block n c none is = let steps : nat_lt 0 c.steps ≡ false = grind (arith, nat_tests, none, is) in rw steps refl

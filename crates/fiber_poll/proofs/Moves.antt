@@ -71,20 +71,29 @@ pub behind_live : (spot : Spot) (x : Exit) → behind_at spot x ≢ Ended
 behind_live spot Next is = cc
 behind_live spot x is = cc
 
--- a statement comes to its end at once
+-- a body that stands there goes where each fiber turns to
+pub goes_by : {a b : Shown} (there : Standing) → a.standing ≡ there → carry_of b ≡ carry_of a → b.standing ≢ Ended
+    → ((f : ℕ) → Turns (setting_of a f) (place_of there) (around_of there a.frames) a.context (place_of b.standing) (around_of b.standing b.frames) b.context) → Goes a b
+goes_by {a} {b} there is same live turns = subst (λ (x : Shown). Goes x b) (sym (stands_at a there is)) (record { same = same; turns = turns; live = live })
+
+-- the same of one that stands before a statement, which begins with a step
+pub begun_goes : {a b : Shown} {spot : Spot} {one : Stmt} → IsBefore a spot one → CostsStep one → carry_of b ≡ carry_of a → b.standing ≢ Ended
+    → ((f : ℕ) → Turns (setting_of a f) (within (begins (stepped a.context) one)) (rest spot.block (spot.place + 1) ∷ framed a.frames) (stepped a.context) (place_of b.standing) (around_of b.standing b.frames) b.context)
+    → Goes a b
+begun_goes {a} {spot = spot} {one = one} before costs same live turns = goes_by (At spot.block spot.place) before.here.at same live
+    (λ f tail y e ahead. costly (setting_of a f) spot a.frames one a.context costs before.here.is before.steps tail y e (turns f tail y e ahead))
+
+-- and comes to its end at once
+pub ends_goes : {a : Shown} {spot : Spot} {one : Stmt} (x : Exit) (b : Shown) → IsBefore a spot one → CostsStep one → carry_of b ≡ carry_of a → settles (stepped a.context) (begins (stepped a.context) one) ≡ Some (ends_by x b.context)
+    → Goes a (record b { standing = behind_at spot x; frames = a.frames })
+ends_goes {a} {spot} {one} x b before costs same row = begun_goes before costs same (behind_live spot x) (λ f tail y e ahead. let s = setting_of a f in
+    ends_ahead s (rest spot.block (spot.place + 1) ∷ framed a.frames) row tail y e (behind s spot a.frames x b.context tail y e ahead))
+
 pub at_once_goes : (a b : Shown) (spot : Spot) (n : ℕ) (one : Stmt) (x : Exit) → IsBefore (stood a (At spot.block spot.place) n) spot one → EndsAtOnce a b one x
     → Goes (stood a (At spot.block spot.place) n) (stood b (behind_at spot x) (n - 1))
 at_once_goes a b spot n one x before ends =
-    let c : Context = record a.context { steps = n } in
-    let d : Context = record a.context { registers = ends.registers; cells = ends.cells; steps = n - 1 } in
-    subst (λ (z : Shown). Goes (stood a (At spot.block spot.place) n) (stood z (behind_at spot x) (n - 1))) (sym ends.is) (record {
-      same = refl;
-      turns = λ f tail y e ahead.
-          let s = setting_of a f in
-          costly s spot a.frames one c ends.costs before.here.is before.steps tail y e
-          (ends_ahead s (rest spot.block (spot.place + 1) ∷ framed a.frames) (ends.row (n - 1)) tail y e (behind s spot a.frames x d tail y e ahead));
-      live = behind_live spot x;
-    })
+    subst (λ (z : Shown). Goes (stood a (At spot.block spot.place) n) (stood z (behind_at spot x) (n - 1))) (sym ends.is)
+    (ends_goes x (record a { context = record a.context { registers = ends.registers; cells = ends.cells; steps = n - 1 } }) before ends.costs refl (ends.row (n - 1)))
 
 -- ---- which statements do
 

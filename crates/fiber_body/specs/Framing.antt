@@ -90,6 +90,24 @@ module _ (s : Setting) where
     is = ahead.is;
   }
 
+  -- where nothing is left of a block, it need not stand around
+  nothing_left : (b p : ℕ) (fs : List Outer) → drop p (block_at s.script.blocks b) ≡ [] → (z : Extent) (c : Context) (back : List Happened) (y : Extent) (d : Context)
+      → Around s fs z c back y d → Around s (rest b p ∷ fs) z c back y d
+  nothing_left b p fs none (whole Next) c back y d around =
+      record { front = []; back = back; extent = whole Next; context = c; first = subst (λ (ss : List Stmt). Runs s ss c [] (whole Next) c) (sym none) finished; second = around; is = refl }
+  nothing_left b p fs none z c back y d around = around
+
+  pub nothing_ahead : (place : Place) (b p : ℕ) (fs : List Outer) (c : Context) → drop p (block_at s.script.blocks b) ≡ [] → Turns s place (rest b p ∷ fs) c place fs c
+  nothing_ahead place b p fs c none tail y d ahead = record {
+    front = ahead.front;
+    back = ahead.back;
+    extent = ahead.extent;
+    context = ahead.context;
+    first = ahead.first;
+    second = nothing_left b p fs none ahead.extent ahead.context ahead.back y d ahead.second;
+    is = ahead.is;
+  }
+
   -- ---- a statement of a block
 
   begins_by : (one : Stmt) (b p : ℕ) (fs : List Outer) (c : Context) (y : Extent) (d : Context) (front back : List Happened) (z : Extent) (g : Context)

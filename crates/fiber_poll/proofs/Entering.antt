@@ -1,5 +1,6 @@
 -- Entering blocks and leaving them: what each makes of where a body stands.
 use Rattle.std.proofs.Common.{◌≡◌, ◌≢◌, ℕ, ◌+◌, ◌-◌, ◌<◌, nat_lt, cond, Bool, true, false, Option, Some, None, List, [], ◌∷◌, slice_get, refl, sym, ap, subst, ◌∙◌, arith}
+use Rattle.std.specs.Bool.{OnFalse, OnTrue}
 use Rattle.std.proofs.lemmas.Bool.Decides.{nat_tests}
 use Rattle.script_tree.specs.declared.program.Operand.{Operand}
 use Rattle.script_tree.specs.declared.program.Stmt.{Stmt}
@@ -14,15 +15,15 @@ use Rattle.fiber_body.specs.declared.standing.Standing.TheVariants.{At, Out, End
 use Rattle.fiber_body.specs.Around.{Turns, around_of, at_stmt, out, place_of, rest, within}
 use Rattle.fiber_body.specs.Context.{Context, block_at, stepped}
 use Rattle.fiber_body.specs.Fits.{setting_of}
-use Rattle.fiber_body.specs.Framing.{begins_ahead, closes_ahead, end_ahead, ends_ahead, enters_ahead, goes_ahead, passes_ahead, rest_ahead, spent_ahead}
+use Rattle.fiber_body.specs.Framing.{begins_ahead, closes_ahead, end_ahead, ends_ahead, enters_ahead, goes_ahead, nothing_ahead, passes_ahead, rest_ahead, spent_ahead}
 use Rattle.fiber_body.specs.Phases.{branches, repeating}
 use Rattle.fiber_body.specs.Places.{at_place, past_end}
 use Rattle.fiber_body.specs.Shown.{Shown, carry_of, stood}
 use Rattle.fiber_body.specs.Tables.{catches, closing, ends_by, ends_text, goes_into, outcome_of, repeats, settles}
 use Rattle.fiber_body.specs.Texts.{script_in}
 use Rattle.fiber_poll.specs.declared.spot.Spot.{Spot}
-use Rattle.fiber_poll.specs.Moving.{Goes, IsAt, IsBefore, behind_at, chosen, entered, passed, round_of}
-use Rattle.fiber_poll.proofs.Moves.{behind, begun_goes, ends_goes, framed, goes_by, headed, round_row, stands_at}
+use Rattle.fiber_poll.specs.Moving.{EndsBlock, Goes, IsAt, IsBefore, behind_at, chosen, entered, passed, round_of}
+use Rattle.fiber_poll.proofs.Moves.{behind, begun_goes, ends_goes, framed, goes_by, goes_trans, headed, round_row, stands_at}
 
 -- ---- entering
 
@@ -33,6 +34,18 @@ module _ (a : Shown) (spot : Spot) where
   branch_goes left right test then block other before some =
       let row : settles (stepped a.context) (branches (chosen a.context left test right then other)) ≡ Some (goes_into block (stepped a.context)) = ap (λ (o : Option ℕ). settles (stepped a.context) (branches o)) some in
       begun_goes before tt refl (λ q. cc) (λ f. goes_ahead (setting_of a f) (rest spot.block (spot.place + 1) ∷ framed a.frames) row)
+
+  -- where it is the last statement of its block, no frame is needed
+  pub last_branch_goes : (left right : Operand) (test : Test) (then block : ℕ) (other : Option ℕ) → IsBefore a spot (stmt.If left test right then other) → chosen a.context left test right then other ≡ Some block
+      → EndsBlock a spot → Goes a (stood a (At block 0) (a.context.steps - 1))
+  last_branch_goes left right test then block other before some last =
+      goes_trans a (entered a spot [] block) (stood a (At block 0) (a.context.steps - 1)) (branch_goes left right test then block other before some) (goes_by (At block 0) refl refl (λ q. cc)
+      (λ f. let s = setting_of a f in nothing_ahead s (at_stmt block 0) spot.block (spot.place + 1) (framed a.frames) (stepped a.context) (past_end (block_at s.script.blocks spot.block) (spot.place + 1) last)))
+
+  pub branched_goes : (last : Bool) (b : Shown) (left right : Operand) (test : Test) (then block : ℕ) (other : Option ℕ) → IsBefore a spot (stmt.If left test right then other) → chosen a.context left test right then other ≡ Some block
+      → OnTrue last (EndsBlock a spot) → OnFalse last (b ≡ entered a spot [] block) → OnTrue last (b ≡ stood a (At block 0) (a.context.steps - 1)) → Goes a b
+  branched_goes true b left right test then block other before some over none is = subst (Goes a) (sym is) (last_branch_goes left right test then block other before some over)
+  branched_goes false b left right test then block other before some over is none = subst (Goes a) (sym is) (branch_goes left right test then block other before some)
 
   -- or none
   pub no_branch_goes : (left right : Operand) (test : Test) (then : ℕ) (other : Option ℕ) → IsBefore a spot (stmt.If left test right then other) → chosen a.context left test right then other ≡ None

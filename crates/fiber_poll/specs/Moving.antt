@@ -54,6 +54,10 @@ pub record IsBefore (body : Shown) (spot : Spot) (one : Stmt) : Type 0 where
   pub here : IsAt body spot one
   pub steps : 0 < body.context.steps
 
+-- no statement stands behind this place in its block
+abbrev pub EndsBlock : Shown → Spot → Type 0
+EndsBlock body spot = slice_get (block_at (script_in body.program).blocks spot.block) (spot.place + 1) ≡ None
+
 -- where a body stands once the statement at this place has ended so
 abbrev pub behind_at : Spot → Exit → Standing
 behind_at spot Next = At spot.block (spot.place + 1)

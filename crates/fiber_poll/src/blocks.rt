@@ -1,5 +1,6 @@
 //! Blocks: entering them, and what is to be done where one has ended.
-ghost use Rattle.std.specs.Prelude.{◌≡◌, ◌<◌, ◌+◌, ◌^◌, ◌++◌, slice_get, OnErr, OnOk};
+ghost use Rattle.std.specs.Prelude.{◌≡◌, ◌<◌, ◌+◌, ◌-◌, ◌^◌, ◌++◌, [], slice_get, OnErr, OnOk};
+ghost use Rattle.std.specs.Bool.{OnFalse, OnTrue};
 ghost use Rattle.std.specs.Option.{IfSome, option_to_list};
 ghost use Rattle.fiber_body.specs.Shown.{IsFrame, stood};
 ghost use Rattle.fiber_body.specs.Tables.{outcome_of};
@@ -31,6 +32,22 @@ pub(crate) fn enter(body: &mut Body, spot: Spot, exit: Option<Frame>, block: u32
             body.pop_frame();
             return Err(Memory);
         }
+    }
+    body.stand(Standing::At { block, place: 0 }, body.steps() - 1);
+    Ok(())
+}
+
+/// Lets the body stand at the beginning of a block, for which a step is spent, and behind which the block at
+/// hand goes on. Where the statement is the last of that one, no frame is needed.
+pub(crate) fn take_branch(body: &mut Body, spot: Spot, block: u32, last: bool) -> Result<(), Memory>
+    requires steps { 0 < body.old.context.steps }
+    requires within { spot.place + 1 < 2 ^ 32 }
+    ensures entered { OnOk result (OnFalse last (body.new ≡ entered body.old spot [] block)) }
+    ensures last { OnOk result (OnTrue last (body.new ≡ stood body.old (Standing.At block 0) (body.old.context.steps - 1))) }
+    ensures kept { OnErr result (body.new ≡ body.old) }
+{
+    if !last {
+        return enter(body, spot, None, block);
     }
     body.stand(Standing::At { block, place: 0 }, body.steps() - 1);
     Ok(())

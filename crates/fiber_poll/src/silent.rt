@@ -66,20 +66,23 @@ fn at_once(body: &mut Body, stmt: &Stmt) -> Option<Exit>
     ensures kept { result ≡ None → body.new ≡ body.old }
     ensures none { result ≡ None → result_of body.old.context.registers body.old.context.cells stmt.now ≡ None }
 {
-    if let Stmt::If {
+    if let Some(exit) = body.change(stmt) {
+        return Some(exit);
+    }
+    let Stmt::If {
         left,
         test,
         right,
         then,
         other,
     } = stmt
-    {
-        return match choose(body, *left, *test, *right, *then, *other) {
-            Some(_) => None,
-            None => Some(Exit::Next),
-        };
+    else {
+        return None;
+    };
+    match choose(body, *left, *test, *right, *then, *other) {
+        Some(_) => None,
+        None => Some(Exit::Next),
     }
-    body.change(stmt)
 }
 
 /// The block that a test chooses, if there is one.

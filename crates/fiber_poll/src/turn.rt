@@ -1,12 +1,13 @@
 //! The part of a turn before its last call: statements, one by one.
 ghost use Rattle.std.specs.Prelude.{◌≡◌, ◌≤◌, ◌<◌, ℕ, IsTrue, None, Some, IfErr, IfOk, OnOk, length, slice_get};
+ghost use Rattle.std.specs.Bool.{OnTrue};
 ghost use Rattle.pic_machine.specs.Lending.{Calm, Faulted};
 ghost use Rattle.script_tree.specs.Tree.{Tree};
 ghost use Rattle.script_tree.specs.WellFormed.{StmtFits};
 ghost use Rattle.fiber_body.specs.Context.{block_at};
 ghost use Rattle.fiber_body.specs.Statements.{result as result_of};
 ghost use Rattle.fiber_poll.specs.Built.{is_built, is_built_stmt};
-ghost use Rattle.fiber_poll.specs.Moving.{IsAt, IsBefore, weight};
+ghost use Rattle.fiber_poll.specs.Moving.{EndsBlock, IsAt, IsBefore, weight};
 ghost use Rattle.fiber_poll.specs.Polls.{IsPortOf};
 ghost use Rattle.fiber_poll.specs.UnderWay.{CanRun, IsLast, IsOn, IsStep, IsUp};
 
@@ -77,7 +78,8 @@ fn run_block<P: Port<Body = Body>, R: ReadyLine>(
             return Ok(None);
         };
         let spot = Spot { block, place: left };
-        if let Some(last) = begin(poller, port, line, body, spot, stmt)? {
+        let is_last = stmt_at(stmts, left + 1).is_none();
+        if let Some(last) = begin(poller, port, line, body, spot, stmt, is_last)? {
             return Ok(Some(last));
         }
         match place_in(body, block) {
@@ -112,7 +114,8 @@ fn stmts_of(program: &Program, block: u32) -> &[Stmt]
     block_at(program, block)
 }
 
-/// Begins a statement that doesn't come to its end at once, where it has a step.
+/// Begins a statement that doesn't come to its end at once, where it has a step. Whoever calls says where it is
+/// the last of its block.
 fn begin<P: Port<Body = Body>, R: ReadyLine>(
     poller: &ScriptPoller,
     port: &mut P,
@@ -120,10 +123,12 @@ fn begin<P: Port<Body = Body>, R: ReadyLine>(
     body: &mut Body,
     spot: Spot,
     stmt: &Stmt,
+    is_last: bool,
 ) -> Result<Option<Last>, PortFault>
     requires port_of { IsPortOf poller.now (P.sight port.old) }
     requires up { IsUp (P.sight port.old) body.old }
     requires at { IsAt body.old spot stmt.now }
+    requires last { OnTrue is_last (EndsBlock body.old spot) }
     requires not_done { 0 < body.old.context.steps → result_of body.old.context.registers body.old.context.cells stmt.now ≡ None }
     requires can { CanRun poller.now stmt.now }
     ensures on { IsOn (P.sight port.old) (P.sight port.new) body.old body.new (R.told line.old) (R.told line.new) }
@@ -138,7 +143,7 @@ fn begin<P: Port<Body = Body>, R: ReadyLine>(
     if let Stmt::Yield = stmt {
         return Ok(Some(Last::Yield(spot)));
     }
-    match enter_block(body, spot, stmt) {
+    match enter_block(body, spot, stmt, is_last) {
         Ok(true) => Ok(None),
         Ok(false) => {
             call(poller, port, line, body, spot, stmt)?;

@@ -1,25 +1,16 @@
-use Rattle.std.proofs.Common.{◌≡◌, refl, sym, subst, ◌∙◌}
+use Rattle.std.proofs.Common.{◌≡◌, sym, ap, subst, ◌∙◌}
 use Rattle.script_tree.specs.declared.program.Stmt.{Stmt}
 use Rattle.fiber_body.specs.declared.standing.Exit.TheVariants.{Next}
+use Rattle.fiber_body.specs.Shown.{Shown}
 use Rattle.fiber_body.specs.Statements.{result}
-use Rattle.fiber_poll.specs.Moving.{EndsAtOnce}
-use Rattle.fiber_poll.proofs.Moves.{changed_at_once, not_chosen, unchanged}
+use Rattle.fiber_poll.specs.Moving.{EndsAtOnce, chosen}
+use Rattle.fiber_poll.proofs.Moves.{not_chosen, unchanged}
 use Rattle.fiber_poll.proofs.silent.at_once.Goals as goal
 
 pub returns-in-None-clause-ends : goal.returns-in-None-clause-ends
 returns-in-None-clause-ends c =
-    let body = c.args.body.now in
-    subst (λ (one : Stmt). EndsAtOnce body body one Next) (sym c.in-If.is)
-    (not_chosen body c.in-If.left c.in-If.right c.in-If.test c.in-If.then c.in-If.other (sym c.choose.ensures ∙ c.in-None.is))
-
-pub returns : goal.returns
-returns c =
-    let old = c.args.body.now in
-    let new = c.change.new.self in
-    let one = c.args.stmt.now in
-    let r = result old.context.registers old.context.cells one in
-    record {
-      ends = changed_at_once old new one r c.change.result refl c.change.ensures;
-      kept = λ none. (unchanged old new one r c.change.result c.change.ensures none).0;
-      none = λ none. (unchanged old new one r c.change.result c.change.ensures none).1;
-    }
+    let old : Shown = c.args.body.now in
+    let kept = (unchanged old c.change.new.self c.args.stmt.now (result old.context.registers old.context.cells c.args.stmt.now) c.change.result c.change.ensures c.in_default.is).0 in
+    let none = ap (λ (b : Shown). chosen b.context c.in-If.left c.in-If.test c.in-If.right c.in-If.then c.in-If.other) (sym kept) ∙ (sym c.choose.ensures ∙ c.in-None.is) in
+    subst (λ (b : Shown). EndsAtOnce old b c.args.stmt.now Next) (sym kept) (subst (λ (one : Stmt). EndsAtOnce old old one Next) (sym c.in-If.is)
+    (not_chosen old c.in-If.left c.in-If.right c.in-If.test c.in-If.then c.in-If.other none))

@@ -4,15 +4,14 @@ use Rattle.fiber_body.specs.Shown.{Shown, stood}
 use Rattle.fiber_body.specs.declared.standing.Standing.{Standing}
 use Rattle.fiber_body.specs.declared.standing.Standing.TheVariants.{At}
 use Rattle.fiber_poll.specs.Moving.{Goes, IsBefore}
-use Rattle.fiber_poll.proofs.Entering.{branch_goes, loop_goes, no_branch_goes, try_goes}
+use Rattle.fiber_poll.proofs.Entering.{branched_goes, loop_goes, no_branch_goes, try_goes}
 use Rattle.fiber_poll.proofs.stmts.enter_block.Goals as goal
 
-pub returns-in_ok-enter-in-Some-clause-goes : goal.returns-in_ok-enter-in-Some-clause-goes
-returns-in_ok-enter-in-Some-clause-goes c =
+pub returns-in_ok-take_branch-in-Some-clause-goes : goal.returns-in_ok-take_branch-in-Some-clause-goes
+returns-in_ok-take_branch-in-Some-clause-goes c =
     let body = c.args.body.now in
-    subst (Goes body) (sym c.in_ok-enter-in-Some.ensures.entered)
-    (branch_goes body c.args.spot c.in-If.left c.in-If.right c.in-If.test c.in-If.then c.in-Some.block c.in-If.other
-    (subst (IsBefore body c.args.spot) c.in-If.is c.requires.before) (sym c.choose.ensures ∙ c.in-Some.is))
+    branched_goes body c.args.spot c.args.last c.take_branch.new.body c.in-If.left c.in-If.right c.in-If.test c.in-If.then c.in-Some.block c.in-If.other
+    (subst (IsBefore body c.args.spot) c.in-If.is c.requires.before) (sym c.choose.ensures ∙ c.in-Some.is) c.requires.last c.in_ok-take_branch-in-Some.ensures.entered c.in_ok-take_branch-in-Some.ensures.last
 
 pub returns-in-None-clause-goes : goal.returns-in-None-clause-goes
 returns-in-None-clause-goes c =

@@ -158,37 +158,31 @@ comp_there tree Root is built = (0, refl, omega arith)
 comp_there tree (Named place) is built = let found = numbered 1 tree.decls place (is_there tree.decls place (λ s. s == 1) is) in (found.0, found.1, omega (arith, found.2))
 comp_there tree (PromiseIn register) is built = absurd cc
 
+-- the call, if there is one, may be made
+abbrev IsAsked : Tree → Option Call → Type 0
+IsAsked tree None = ⊥
+IsAsked tree (Some call) = CanAsk tree call
+
 module _ (tree : Tree) (c : Context) where
-  named : (comp : CompRef) (call : ℕ → Call) → ((k : ℕ) → k ≤ length tree.decls → CanAsk tree (call k)) → IsComp tree comp → IsTrue (is_built_comp comp)
-      → (k : Call) × (on (comp_in (comp_numbers 1 tree.decls) comp) call ≡ Some k) × CanAsk tree k
-  named comp call can is built = let found = comp_there tree comp is built in (call found.0, ap (λ (o : Option ℕ). on o call) found.1, can found.0 found.2)
+  named : (comp : CompRef) (call : ℕ → Call) → ((k : ℕ) → k ≤ length tree.decls → CanAsk tree (call k)) → IsComp tree comp → IsTrue (is_built_comp comp) → IsAsked tree (on (comp_in (comp_numbers 1 tree.decls) comp) call)
+  named comp call can is built = let found = comp_there tree comp is built in subst (λ (o : Option ℕ). IsAsked tree (on o call)) (sym found.1) (can found.0 found.2)
 
   asks_by : (holder : ℕ) (one : Stmt) → StmtFits tree holder one → IsTrue (is_built_stmt one) → result c.registers c.cells one ≡ None → first c one ≡ calls one → one ≢ stmt.Yield
-      → (k : Call) × (call_of (comp_numbers 1 tree.decls) (stepped c) one ≡ Some k) × CanAsk tree k
-  asks_by holder (stmt.Say v) fits built none is apart = (asked.Say (value c v), refl, tt)
-  asks_by holder (stmt.Spawn text v) fits built none is apart = (asked.Fork text (value c v), refl, fits.0)
-  asks_by holder (stmt.Return r comp v) fits built none is apart = named comp (λ k. asked.Complete k (Returned (value c v))) (λ k stands. stands) fits.1.0 built
-  asks_by holder (stmt.Cancel r comp v) fits built none is apart = named comp (λ k. asked.Complete k (Cancelled (value c v))) (λ k stands. stands) fits.1.0 built
-  asks_by holder (stmt.Peek r q comp) fits built none is apart = named comp (λ k. asked.Peek k) (λ k stands. stands) fits.1.1.0 built
+      → IsAsked tree (call_of (comp_numbers 1 tree.decls) (stepped c) one)
   asks_by holder stmt.Yield fits built none is apart = absurd (apart refl)
-  asks_by holder _ fits built none is apart = absurd cc
+  asks_by holder _ fits built none is apart = first_of (search (named, fits, built), cc)
 
   module _ (numbers : List ℕ) (counted : numbers ≡ comp_numbers 1 tree.decls) (one : Stmt) (can : CanRun tree one) (none : result c.registers c.cells one ≡ None) (is : first c one ≡ calls one) (apart : one ≢ stmt.Yield) where
-    asks_one : (k : Call) × (call_of numbers (stepped c) one ≡ Some k) × CanAsk tree k
-    asks_one =
-        let found = asks_by can.holder one can.fits can.built none is apart in
-        (found.0, ap (λ (ns : List ℕ). call_of ns (stepped c) one) counted ∙ found.1, found.2)
+    asked_one : (found : Option Call) → call_of numbers (stepped c) one ≡ found → IsAsked tree found
+    asked_one found same = subst (IsAsked tree) (ap (λ (ns : List ℕ). call_of ns (stepped c) one) (sym counted) ∙ same) (asks_by can.holder one can.fits can.built none is apart)
 
     -- the statement asks for a call
     pub asks_some : call_of numbers (stepped c) one ≢ None
-    asks_some none_asked = let both : Some asks_one.0 ≡ None = sym asks_one.1 ∙ none_asked in cc
+    asks_some same = asked_one None same
 
     -- which may be made
     pub can_ask : (call : Call) → call_of numbers (stepped c) one ≡ Some call → CanAsk tree call
-    can_ask call found =
-        let both : Some asks_one.0 ≡ Some call = sym asks_one.1 ∙ found in
-        let same : asks_one.0 ≡ call = cc in
-        subst (CanAsk tree) same asks_one.2
+    can_ask call same = asked_one (Some call) same
 
 -- such a call ends no turn, and begins none
 goes_on_by : (tree : Tree) (f : ℕ) (call : Call) (reply : Reply) (birth : Option Birth) → CanAsk tree call → GoesOn (happens f call reply birth) × (is_turn call ≡ false)

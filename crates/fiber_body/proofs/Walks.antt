@@ -1,5 +1,5 @@
 -- Walks through each line of the tables, by given replies: a table with a wrong line has another walk.
-use Rattle.std.proofs.Common.{◌≡◌, ℕ, Option, Some, None, List, [], ◌∷◌, replicate, refl}
+use Rattle.std.proofs.Common.{◌≡◌, ℕ, Some, None, List, [], ◌∷◌, replicate, refl}
 use Rattle.pic_base.specs.declared.outcome.Outcome.TheVariants.{Returned, Cancelled}
 use Rattle.pic_machine.specs.declared.birth.Birth.{Birth}
 use Rattle.pic_machine.specs.declared.entry.Call.TheVariants as call
@@ -21,7 +21,7 @@ use Rattle.fiber_body.specs.declared.standing.Exit.TheVariants.{Next, Raised, Br
 use Rattle.fiber_body.specs.Context.{Context, Setting, comp_in, comp_numbers}
 use Rattle.fiber_body.specs.Follows.{FollowsText, context_of}
 use Rattle.fiber_body.specs.Phases.{Phase, calls, ending, ends, gone, lives, repeating}
-use Rattle.fiber_body.specs.Segments.{Acts, Extent, IsSpent, Runs, and_out, at, between, cut, rests, stops, whole}
+use Rattle.fiber_body.specs.Segments.{Acts, IsSpent, Runs, and_out, at, between, cut, rests, stops, whole}
 use Rattle.fiber_body.specs.Tables.{asks, leads}
 use Rattle.fiber_body.proofs.Walking.{Walk, walker}
 

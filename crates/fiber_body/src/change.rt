@@ -37,7 +37,8 @@ impl Body {
                 self.content.registers[*register as usize] = rest;
             }
             Stmt::Mul(register, operand) => {
-                let Some(product) = self.register(*register).checked_mul(self.value(*operand)) else {
+                let Some(product) = self.register(*register).checked_mul(self.value(*operand))
+                else {
                     return Some(Exit::Raised(OVERFLOW));
                 };
                 self.content.registers[*register as usize] = product;

@@ -122,6 +122,11 @@ one_spawns = (ran _ _ _ (Made 4 ∷ Full ∷ [])).is
 no_birth : Leaves [] (stmt.Say (Num 1) ∷ []) (with [] 1) (event 3 (call.Say 1) (Made 4) ∷ []) Next (with [] 0)
 no_birth = (ran _ _ _ (Made 4 ∷ [])).is
 
+-- after any other reply they go on, with nothing changed
+other_replies : Leaves [] (stmt.Return 0 Root (Num 7) ∷ stmt.Cancel 0 Root (Num 7) ∷ stmt.Peek 0 0 Root ∷ stmt.Spawn 6 (Num 9) ∷ []) (with (5 ∷ []) 4)
+    (event 3 (call.Complete 0 (Returned 7)) Plain ∷ event 3 (call.Complete 0 (Cancelled 7)) Plain ∷ event 3 (call.Peek 0) Plain ∷ event 3 (call.Fork 6 9) Plain ∷ []) Next (with (5 ∷ []) 0)
+other_replies = (ran _ _ _ (plain 4)).is
+
 -- a statement that no run serves begins and asks for nothing, and so does one whose computation isn't there
 nothing_asked : Runs (within []) (stmt.Check ∷ stmt.Say (Num 1) ∷ []) (with [] 9) [] (cut (at (calls stmt.Check))) (with [] 8)
 nothing_asked = (ran _ _ _ (plain 2)).is
@@ -203,6 +208,10 @@ two_rounds = (ran _ _ _ (plain 3)).is
 -- each round costs a step, also of an empty block
 rounds_spent : Leaves ([] ∷ []) (stmt.Loop 0 ∷ stmt.Say (Num 7) ∷ []) (with [] 2) [] Spent (with [] 0)
 rounds_spent = (ran _ _ _ []).is
+
+-- where no step is left within a round, none is left for the loop either
+spent_in_round : Leaves ((stmt.Say (Num 1) ∷ stmt.Yield ∷ []) ∷ []) (stmt.Loop 0 ∷ stmt.Say (Num 7) ∷ []) (with [] 2) (said 1 ∷ []) Spent (with [] 0)
+spent_in_round = (ran _ _ _ (plain 1)).is
 
 -- what is raised in a round leaves the loop
 raised_in_loop : Leaves ((stmt.Raise (Num 6) ∷ []) ∷ []) (stmt.Loop 0 ∷ stmt.Say (Num 7) ∷ []) (with [] 9) [] (Raised 6) (with [] 7)

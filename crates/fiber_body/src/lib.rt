@@ -13,10 +13,10 @@
 //!
 //! `Body` is what a port moves about: it keeps each clause of `Carried`, seen as the `Shown` of
 //! `specs/Shown.antt`; `Fits` says where it stands after a log, and `New` what it is before the first one.
-//! Two files of `specs/` are proofs on which others stand: `Framing`, what each row of the tables makes of
-//! where a fiber stands, once for all statements, and `Laws`, that a body fits where its log leads to it,
-//! and goes on to fit where something else of it changes; `Places` is their lemma on lists. The walks of
-//! `proofs/Walks.antt` go through each line of the tables by given replies.
+//! Three files of `specs/` are laws on which proofs above stand too: `Framing`, what each row of the tables
+//! makes of where a fiber stands, once for all statements; `Laws`, that a body fits where its log leads to
+//! it, and goes on to fit where something else of it changes; and `Places`, what stands at a place of a
+//! list. The walks of `proofs/Walks.antt` go through each line of the tables by given replies.
 //!
 //! Pollers use a body's calls: `change` for a statement that makes no entry and has no block, `stand` and
 //! the calls on frames for all others; with `Numbers` they find the computations that statements name, and

@@ -1,3 +1,5 @@
 pub mod Declared
 pub mod Newborn
 pub mod Popped
+mod Walking
+mod Walks

@@ -14,8 +14,9 @@ use script_tree::Stmt;
 const OVERFLOW: Value = 2;
 
 impl Body {
-    /// Makes what the statement makes of registers and storage alone, and answers how it ends. Of a
-    /// statement that makes an entry, or has a block, nothing is made, and the answer is None.
+    /// Makes what the statement makes of registers and storage alone, and answers how it ends. Of any other
+    /// statement nothing is made, and the answer is None: it makes an entry or has a block, or no run serves
+    /// it yet.
     pub fn change(&mut self, stmt: &Stmt) -> Option<Exit>
         requires { (tree : Tree) × (holder : ℕ) × StmtFits tree holder stmt.now }
         ensures { IsChanged (result_of self.old.context.registers self.old.context.cells stmt.now) self.old self.new result }
@@ -37,7 +38,8 @@ impl Body {
                 self.content.registers[*register as usize] = rest;
             }
             Stmt::Mul(register, operand) => {
-                let Some(product) = self.register(*register).checked_mul(self.value(*operand)) else {
+                let Some(product) = self.register(*register).checked_mul(self.value(*operand))
+                else {
                     return Some(Exit::Raised(OVERFLOW));
                 };
                 self.content.registers[*register as usize] = product;

@@ -7,8 +7,8 @@ use script_tree::{CompRef, Kind, Program};
 use std::alloc::Global;
 use std::marker::Model;
 
-/// The numbers of the computations that a program declares, each at the place of its declaration.
-/// They are counted once for a program.
+/// The numbers of the computations that a program declares, each at the place of its declaration. Beside
+/// another declaration stands the number of the next computation. They are counted once for a program.
 #[derive(Drop)]
 pub struct Numbers {
     comps: Vec<CompNo>,
@@ -36,8 +36,8 @@ impl Numbers {
         Ok(Numbers { comps })
     }
 
-    /// The number of a computation. None where no such one is declared, and where nothing stands in a
-    /// promise register.
+    /// The number of a computation. None where nothing is declared at its place, and of a promise register,
+    /// in which nothing stands yet.
     pub fn comp(&self, comp: CompRef) -> Option<CompNo>
         ensures { result ≡ comp_in self.now comp }
     {

@@ -1,4 +1,4 @@
-use Rattle.std.proofs.Common.{◌≡◌, ◌+◌, ◌++◌, ◌∷◌, [], drop, length, ◌<◌, subst, ℕ, List, ap, ◌∙◌, arith}
+use Rattle.std.proofs.Common.{◌+◌, ◌++◌, ◌∷◌, [], drop, length, ◌<◌, subst, ℕ, List, ap, ◌∙◌, arith}
 use Rattle.script_tree.specs.Tree.{Tree}
 use Rattle.script_tree.specs.WellFormed.{IsWellFormed}
 use Rattle.fiber_body.specs.Context.{comp_numbers}
@@ -18,9 +18,8 @@ loop-decl-preserved c =
     let at = c.loop-decl.decl-index in
     let within : at < length all = omega (arith, c.loop-decl-test.true, c.deref-decl-items.ensures.len) in
     let more = numbered c.loop-decl.comps.items c.loop-decl.next at c.decl-item.result all all within c.decl-item.is c.loop-decl.invariant.0 in
-    let least = no_more c.loop-decl.next c.decl-item.result.kind in
-    (
+    let least = no_more c.loop-decl.next c.decl-item.result.kind in (
       ap (λ (ns : List ℕ). ns ++ comp_numbers c.number_behind-next.result (drop (at + 1) all)) c.in_ok-push.ensures.items
-      ∙ (ap (λ (n : ℕ). (c.loop-decl.comps.items ++ c.loop-decl.next ∷ []) ++ comp_numbers n (drop (at + 1) all)) c.number_behind-next.ensures ∙ more),
+          ∙ (ap (λ (n : ℕ). (c.loop-decl.comps.items ++ c.loop-decl.next ∷ []) ++ comp_numbers n (drop (at + 1) all)) c.number_behind-next.ensures ∙ more),
       omega (arith, least, c.number_behind-next.ensures, c.loop-decl.invariant.1),
     )

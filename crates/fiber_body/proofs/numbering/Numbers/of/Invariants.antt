@@ -1,4 +1,4 @@
-use Rattle.std.proofs.Common.{◌≡◌, ◌+◌, ◌≤◌, ◌++◌, drop, length}
+use Rattle.std.proofs.Common.{◌≡◌, ◌+◌, ◌≤◌, ◌++◌, drop}
 use Rattle.fiber_body.specs.Context.{comp_numbers}
 use Rattle.fiber_body.proofs.numbering.Numbers.of.Given as goal
 

@@ -28,7 +28,14 @@ use Rattle.mux_one.specs.UnderWay.{IsUnderWay, told_by}
 
 -- before the first turn
 pub at_start : {S : Type 0} {p : Sight S} → p.origin.world.fibers ≡ Live ∷ [] → 1 ≤ p.origin.world.limits.fibers → p.front ≡ [] → p.out ≡ None → IsUnderWay p (1 ∷ [])
-at_start {p = p} main room fresh out = record { main = main; room = room; legal = rw fresh (IsLegal-nil p.origin); order = rw fresh begin; few = λ f. rw fresh (omega arith); out = out }
+at_start {p = p} main room fresh out = record {
+  main = main;
+  room = room;
+  legal = rw fresh (IsLegal-nil p.origin);
+  order = rw fresh begin;
+  few = λ f. rw fresh (omega arith);
+  out = out;
+}
 
 are_ready : {S : Type 0} {p : Sight S} {ready : List ℕ} → IsUnderWay p ready → IsReady (world p.origin p.front) ready
 are_ready now = ready_is_live (λ before. before ≡ []) _ _ _ now.main now.legal now.order
@@ -68,22 +75,26 @@ whole_stopped mine whole_before whole_now stopped = rw (mine, whole_before, whol
 -- the turn of the fiber that was first of the line: the body came by a claim, and a poll ran it
 module _ {S : Type 0} {p q r : Sight S} {f : ℕ} {ready line : List ℕ} {How : Happened → Type 0}
     (alone : p.alone ≡ true) (began : Began p q (event f call.Turn reply.Plain)) (stopped : Stopped q r f (Some ready) (Some line) How) where
+  abbrev claimed : Happened
+  claimed = event f call.Turn reply.Plain
+
   abbrev made : List Happened
   made = stopped.going ++ stopped.final ∷ []
 
-  front : r.front ≡ p.front ++ event f call.Turn reply.Plain ∷ made
+  front : r.front ≡ p.front ++ claimed ∷ made
   front =
-      let begun : q.front ≡ p.front ++ event f call.Turn reply.Plain ∷ [] = began.later.front ∙ ap (λ (hs : List Happened). p.front ++ (hs ++ event f call.Turn reply.Plain ∷ [])) (began.none alone) in
-      stopped.grew.later.front ∙ (rw (begun, stopped.grew.alone (began.later.alone ∙ alone)) (append_assoc p.front (event f call.Turn reply.Plain ∷ []) made))
+      let begun : q.front ≡ p.front ++ claimed ∷ [] = began.later.front ∙ ap (λ (hs : List Happened). p.front ++ (hs ++ claimed ∷ [])) (began.none alone) in
+      stopped.grew.later.front ∙ (rw (begun, stopped.grew.alone (began.later.alone ∙ alone)) (append_assoc p.front (claimed ∷ []) made))
 
   pub one_further : turns_over r.front ≡ turns_over p.front + 1
-  one_further = rw front (turns_over-append p.front (event f call.Turn reply.Plain ∷ made) ∙ ap (λ (n : ℕ). turns_over p.front + n) (turn_over stopped.going stopped.final stopped.on stopped.last))
+  one_further = rw front (turns_over-append p.front (claimed ∷ made) ∙ ap (λ (n : ℕ). turns_over p.front + n) (turn_over stopped.going stopped.final stopped.on stopped.last))
 
+  -- the fiber may have yielded once more, and no other one did
   few_each : ((g : ℕ) → yields (log p.front g) ≤ most_steps + 1) → yields (log q.front f) ≤ most_steps → (g : ℕ) → yields (log r.front g) ≤ most_steps + 1
   few_each each few g =
       let mine : yields (log r.front f) ≤ most_steps + 1 = rw stopped.grew.log (omega (arith, few, yields-append (log q.front f) made, turn_yields stopped.going stopped.final stopped.on)) in
       let here : f ≡ g → yields (log r.front g) ≤ most_steps + 1 = λ same. subst (λ (n : ℕ). yields (log r.front n) ≤ most_steps + 1) same mine in
-      let other : f ≢ g → yields (log r.front g) ≤ most_steps + 1 = λ apart. rw (front, log_stays p.front (event f call.Turn reply.Plain ∷ made) g (apart, own_others f g made apart stopped.grew.own)) (each g) in
+      let other : f ≢ g → yields (log r.front g) ≤ most_steps + 1 = λ apart. rw (front, log_stays p.front (claimed ∷ made) g (apart, own_others f g made apart stopped.grew.own)) (each g) in
       grind (arith, here, other)
 
   pub next_turn : IsUnderWay p (f ∷ ready) → yields (own (log q.front f)) ≤ most_steps → IsUnderWay r line

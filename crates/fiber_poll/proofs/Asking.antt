@@ -1,6 +1,6 @@
 -- Statements that ask for one call: which one, and where its entry leads.
 use Rattle.std.specs.Prelude.{IsTrue}
-use Rattle.std.proofs.Common.{◌≡◌, ◌≢◌, ℕ, zero, suc, ◌+◌, ◌*◌, ◌-◌, ◌<◌, ◌≤◌, ◌==◌, Bool, false, slice_get, Option, Some, None, List, [], ◌∷◌, ◌++◌, length, refl, sym, ap, subst, ◌∙◌, arith}
+use Rattle.std.proofs.Common.{◌≡◌, ◌≢◌, ℕ, zero, suc, ◌+◌, ◌<◌, ◌≤◌, ◌==◌, Bool, false, slice_get, Option, Some, None, List, [], ◌∷◌, ◌++◌, length, refl, sym, ap, subst, ◌∙◌, arith}
 use Rattle.pic_machine.specs.declared.birth.Birth.{Birth}
 use Rattle.pic_machine.specs.declared.entry.Call.{Call}
 use Rattle.pic_machine.specs.declared.entry.Call.TheVariants as asked
@@ -10,7 +10,6 @@ use Rattle.pic_machine.specs.Happened.{Happened}
 use Rattle.pic_machine.specs.Log.{is_turn, log, own}
 use Rattle.pic_machine.specs.Order.{GoesOn}
 use Rattle.pic_machine.specs.Sight.{Notes, Sight, fiber_of}
-use Rattle.pic_base.specs.declared.outcome.Outcome.TheVariants.{Returned, Cancelled}
 use Rattle.script_tree.specs.declared.program.CompRef.{CompRef}
 use Rattle.script_tree.specs.declared.program.CompRef.TheVariants.{Root, Named, Promise as PromiseIn}
 use Rattle.script_tree.specs.declared.program.Decl.{Decl}
@@ -22,17 +21,16 @@ use Rattle.script_tree.specs.Tree.{Tree}
 use Rattle.script_tree.specs.WellFormed.{IsComp, IsOfSort, StmtFits}
 use Rattle.fiber_body.specs.declared.standing.Exit.{Exit}
 use Rattle.fiber_body.specs.declared.standing.Exit.TheVariants.{Next, Raised}
-use Rattle.fiber_body.specs.declared.standing.Standing.{Standing}
 use Rattle.fiber_body.specs.declared.standing.Standing.TheVariants.{At, Ended}
 use Rattle.fiber_body.specs.Around.{Leads, Outer, Place, at_stmt, rest, within}
-use Rattle.fiber_body.specs.Context.{Context, Setting, behind_decl, comp_in, comp_numbers, limit_met, value, stepped, with_register}
+use Rattle.fiber_body.specs.Context.{Context, Setting, behind_decl, comp_in, comp_numbers, limit_met, stepped, with_register}
 use Rattle.fiber_body.specs.Fits.{LeadsTo, setting_of}
 use Rattle.fiber_body.specs.Follows.{context_of}
 use Rattle.fiber_body.specs.Framing.{ends_ahead, leads_entry}
 use Rattle.fiber_body.specs.Phases.{Phase, calls, ended, lives}
 use Rattle.fiber_body.specs.Segments.{happens}
-use Rattle.fiber_body.specs.Shown.{IsSameRest, Shown, carry_of, stood}
-use Rattle.fiber_body.specs.Statements.{Effect, begins, born, call_of, first, on, or_first, outcome_number, replied, result, state_number, won}
+use Rattle.fiber_body.specs.Shown.{IsSameRest, Shown, carry_of}
+use Rattle.fiber_body.specs.Statements.{begins, born, call_of, first, on, or_first, outcome_number, replied, result, state_number, won}
 use Rattle.fiber_body.specs.Texts.{block_in, script_in}
 use Rattle.fiber_poll.specs.declared.spot.Spot.{Spot}
 use Rattle.fiber_poll.specs.Built.{is_built_comp, is_built_stmt}

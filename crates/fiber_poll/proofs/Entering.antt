@@ -10,16 +10,15 @@ use Rattle.fiber_body.specs.declared.standing.Exit.{Exit}
 use Rattle.fiber_body.specs.declared.standing.Exit.TheVariants.{Next, Raised, Broke, Spent}
 use Rattle.fiber_body.specs.declared.standing.Frame.{Frame}
 use Rattle.fiber_body.specs.declared.standing.Frame.TheVariants.{Rest, Repeats, Catches}
-use Rattle.fiber_body.specs.declared.standing.Standing.{Standing}
 use Rattle.fiber_body.specs.declared.standing.Standing.TheVariants.{At, Out, Ending, Ended}
-use Rattle.fiber_body.specs.Around.{Turns, around_of, at_stmt, out, place_of, rest, within}
+use Rattle.fiber_body.specs.Around.{Turns, around_of, at_stmt, out, place_of, rest}
 use Rattle.fiber_body.specs.Context.{Context, block_at, stepped}
 use Rattle.fiber_body.specs.Fits.{setting_of}
 use Rattle.fiber_body.specs.Framing.{begins_ahead, closes_ahead, end_ahead, ends_ahead, enters_ahead, goes_ahead, nothing_ahead, passes_ahead, rest_ahead, spent_ahead}
 use Rattle.fiber_body.specs.Phases.{branches, repeating}
 use Rattle.fiber_body.specs.Places.{at_place, past_end}
 use Rattle.fiber_body.specs.Shown.{Shown, carry_of, stood}
-use Rattle.fiber_body.specs.Tables.{catches, closing, ends_by, ends_text, goes_into, outcome_of, repeats, settles}
+use Rattle.fiber_body.specs.Tables.{catches, ends_by, ends_text, goes_into, outcome_of, repeats, settles}
 use Rattle.fiber_body.specs.Texts.{script_in}
 use Rattle.fiber_poll.specs.declared.spot.Spot.{Spot}
 use Rattle.fiber_poll.specs.Moving.{EndsBlock, Goes, IsAt, IsBefore, behind_at, chosen, entered, passed, round_of}

@@ -1,5 +1,5 @@
 -- Statements that come to their end at once, and rounds of a loop: what each makes of where a body stands.
-use Rattle.std.proofs.Common.{◌≡◌, ◌≢◌, ℕ, ◌+◌, ◌-◌, ◌<◌, ◌≤◌, nat_lt, true, Option, Some, None, List, [], ◌∷◌, ◌++◌, length, map, slice_get, drop, refl, sym, ap, subst, ◌∙◌, arith}
+use Rattle.std.proofs.Common.{◌≡◌, ◌≢◌, ℕ, ◌+◌, ◌-◌, ◌<◌, ◌≤◌, nat_lt, true, Option, Some, None, List, [], ◌∷◌, ◌++◌, length, map, slice_get, refl, sym, ap, subst, ◌∙◌, arith}
 use Rattle.std.specs.Prelude.{IfSome}
 use Rattle.std.proofs.lemmas.Bool.Decides.{nat_tests}
 use Rattle.std.proofs.lemmas.Option.{slice_get_within}
@@ -23,7 +23,7 @@ use Rattle.fiber_body.specs.Phases.{branches, repeating}
 use Rattle.fiber_body.specs.Places.{at_place, past_end}
 use Rattle.fiber_body.specs.Shown.{IsChanged, Shown, carry_of, stood}
 use Rattle.fiber_body.specs.Statements.{Effect, begins, or_first, result}
-use Rattle.fiber_body.specs.Tables.{encloses, ends_by, ends_text, next_round, repeats, settles}
+use Rattle.fiber_body.specs.Tables.{encloses, ends_by, ends_text, repeats, settles}
 use Rattle.fiber_body.specs.Texts.{script_in}
 use Rattle.fiber_poll.specs.declared.spot.Spot.{Spot}
 use Rattle.fiber_poll.specs.Moving.{CostsStep, EndsAtOnce, Goes, IsBefore, behind_at, chosen}

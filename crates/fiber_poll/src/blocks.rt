@@ -16,7 +16,12 @@ const NO_STEP: Value = 1;
 /// Lets the body stand at the beginning of a block, for which a step is spent: around it is the rest of the
 /// block at hand, and within that the exit of the new one, where there is something to do. Where a frame
 /// wants memory that isn't there, the body stays as it is.
-pub(crate) fn enter(body: &mut Body, spot: Spot, exit: Option<Frame>, block: u32) -> Result<(), Memory>
+pub(crate) fn enter(
+    body: &mut Body,
+    spot: Spot,
+    exit: Option<Frame>,
+    block: u32,
+) -> Result<(), Memory>
     requires steps { 0 < body.old.context.steps }
     requires within { spot.place + 1 < 2 ^ 32 }
     requires frame { IfSome exit IsFrame }

@@ -33,7 +33,9 @@ pub(crate) fn make<P: Port<Body = Body>, R: ReadyLine>(
             Ok(Reply::Plain)
         }
         Call::Peek(comp) => Ok(Reply::Peeked(port.peek(body, comp)?)),
-        Call::Complete { comp, outcome } => Ok(Reply::Completed(port.complete(body, comp, outcome)?)),
+        Call::Complete { comp, outcome } => Ok(Reply::Completed(port.complete(
+            body, comp, outcome,
+        )?)),
         Call::Fork { text, value } => fork(poller, port, line, body, text, value),
         Call::Turn | Call::Yield | Call::End(_) => unreachable!("the turn goes on behind the call"),
     }

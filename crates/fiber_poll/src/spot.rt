@@ -1,8 +1,8 @@
-use fiber_body::{Exit, Standing};
-use pic_base::Outcome;
-
 ghost use Rattle.std.specs.Prelude.{◌≡◌, ◌<◌, ◌+◌, ◌^◌};
 ghost use Rattle.fiber_poll.specs.Moving.{behind_at};
+
+use fiber_body::{Exit, Standing};
+use pic_base::Outcome;
 
 /// A place in a block: that of a statement, or the block's end.
 #[derive(Clone, Copy)]

@@ -22,7 +22,12 @@ use script_tree::Stmt;
 
 /// Enters the block of a statement, or goes on behind it where none is chosen. Answers false, and changes
 /// nothing, where the statement has no block. Whoever calls says where the statement is the last of its own.
-pub(crate) fn enter_block(body: &mut Body, spot: Spot, stmt: &Stmt, last: bool) -> Result<bool, Memory>
+pub(crate) fn enter_block(
+    body: &mut Body,
+    spot: Spot,
+    stmt: &Stmt,
+    last: bool,
+) -> Result<bool, Memory>
     requires before { IsBefore body.old spot stmt.now }
     requires last { OnTrue last (EndsBlock body.old spot) }
     requires not_done { result_of body.old.context.registers body.old.context.cells stmt.now ≡ None }

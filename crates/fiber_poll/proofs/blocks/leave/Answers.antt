@@ -1,4 +1,4 @@
-use Rattle.std.proofs.Common.{◌≡◌, ◌-◌, None, ℕ, slice_get, ap, subst, sym, ◌∙◌}
+use Rattle.std.proofs.Common.{◌≡◌, ◌-◌, ℕ, slice_get, ap, subst, sym, ◌∙◌}
 use Rattle.pic_base.specs.declared.outcome.Outcome.{Outcome}
 use Rattle.fiber_body.specs.declared.standing.Exit.{Exit}
 use Rattle.fiber_body.specs.declared.standing.Standing.TheVariants.{At, Ending, Out}

@@ -5,9 +5,8 @@ use Rattle.pic_machine.specs.declared.poller.Turn.TheVariants as turn
 use Rattle.pic_machine.specs.declared.port.PortFault.TheVariants.{Memory}
 use Rattle.pic_machine.specs.Sight.{fiber_of}
 use Rattle.pic_machine.specs.Turning.{Adds, YieldsSo}
-use Rattle.script_tree.specs.declared.program.Stmt.TheVariants as stmt
 use Rattle.fiber_body.specs.declared.standing.Standing.TheVariants.{At}
-use Rattle.fiber_body.specs.Shown.{Shown, carry_of}
+use Rattle.fiber_body.specs.Shown.{carry_of}
 use Rattle.fiber_poll.proofs.Giving.{before_same, fits_yielded, handed, handed_set_back, stopped}
 use Rattle.fiber_poll.proofs.Going.{on_reserved}
 use Rattle.fiber_poll.proofs.last.yield_turn.Goals as goal

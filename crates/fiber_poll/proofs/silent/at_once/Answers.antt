@@ -1,4 +1,4 @@
-use Rattle.std.proofs.Common.{◌≡◌, sym, ap, subst, ◌∙◌}
+use Rattle.std.proofs.Common.{sym, ap, subst, ◌∙◌}
 use Rattle.script_tree.specs.declared.program.Stmt.{Stmt}
 use Rattle.fiber_body.specs.declared.standing.Exit.TheVariants.{Next}
 use Rattle.fiber_body.specs.Shown.{Shown}

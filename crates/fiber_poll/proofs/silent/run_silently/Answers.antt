@@ -1,5 +1,5 @@
 use Rattle.std.proofs.lemmas.Option.{slice_get_within}
-use Rattle.std.proofs.Common.{◌≡◌, ◌≢◌, ◌+◌, ◌-◌, ◌<◌, None, Some, ℕ, length, slice_get, refl, ap, subst, sym, ◌∙◌, arith}
+use Rattle.std.proofs.Common.{◌≡◌, ◌≢◌, ◌-◌, ◌<◌, None, Some, ℕ, refl, ap, subst, sym, ◌∙◌, arith}
 use Rattle.script_tree.specs.declared.program.Stmt.{Stmt}
 use Rattle.fiber_body.specs.declared.standing.Exit.{Exit}
 use Rattle.fiber_body.specs.declared.standing.Exit.TheVariants.{Next}
@@ -16,8 +16,7 @@ pub loop-steps-init : goal.loop-steps-init
 loop-steps-init c =
     let body = c.args.body.now in
     let at = At c.args.block c.args.place in
-    let there : body ≡ stood body at c.steps-steps.result = stands_at body at c.requires.at ∙ ap (λ (n : ℕ). stood body at n) (sym c.steps-steps.ensures) in
-    (
+    let there : body ≡ stood body at c.steps-steps.result = stands_at body at c.requires.at ∙ ap (λ (n : ℕ). stood body at n) (sym c.steps-steps.ensures) in (
       subst (Goes body) there (goes_none body (λ ended. let both : at ≡ Ended = sym c.requires.at ∙ ended in cc)),
       (let same : weight (stood body at c.steps-steps.result) ≡ weight body = ap weight (sym there) in omega (arith, same)),
     )
@@ -25,8 +24,7 @@ loop-steps-init c =
 pub loop-steps-preserved-in_default : goal.loop-steps-preserved-in_default
 loop-steps-preserved-in_default c =
     let l = c.loop-steps in
-    let past = c.stmt_at.ensures.none c.in_default.is in
-    (
+    let past = c.stmt_at.ensures.none c.in_default.is in (
       round_on c.args.body.now l.body c.args.block l.place l.steps l.invariant.0 c.args.stmts.now c.requires.stmts past c.if-not-repeats.ensures c.loop-steps-test.true,
       (let less = l.invariant.1 in omega (arith, less, c.loop-steps-test.true)),
     )
@@ -44,8 +42,7 @@ loop-steps-preserved c =
     let l = c.loop-steps in
     let b : Shown = c.at_once.new.body in
     let one : Stmt = c.in-Some.stmt.now in
-    let ends : EndsAtOnce l.body b one Next = subst (EndsAtOnce l.body b one) c.in-Next.is c.in-Some-at_once.ensures.ends in
-    (
+    let ends : EndsAtOnce l.body b one Next = subst (EndsAtOnce l.body b one) c.in-Next.is c.in-Some-at_once.ensures.ends in (
       statement_on c.args.body.now l.body c.args.block l.place l.steps l.invariant.0 b c.args.stmts.now one Next c.requires.stmts c.requires.few c.in-Some.ensures.some c.loop-steps-test.true ends,
       (let less = l.invariant.1 in let same = same_frames l.body b one Next ends in omega (arith, less, same, c.loop-steps-test.true)),
     )

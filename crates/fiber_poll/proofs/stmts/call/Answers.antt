@@ -3,7 +3,7 @@ use Rattle.script_tree.specs.Tree.{Tree}
 use Rattle.fiber_body.specs.Context.{Context, comp_numbers, stepped}
 use Rattle.fiber_body.specs.Statements.{call_of, replied}
 use Rattle.fiber_body.specs.Shown.{Shown}
-use Rattle.fiber_poll.specs.Moving.{IsBefore, taken, weight}
+use Rattle.fiber_poll.specs.Moving.{taken, weight}
 use Rattle.fiber_poll.specs.UnderWay.{IsOn}
 use Rattle.fiber_poll.proofs.Asking.{asks_some, can_ask, on_called, taken_lighter}
 use Rattle.fiber_poll.proofs.Going.{on_reserved}

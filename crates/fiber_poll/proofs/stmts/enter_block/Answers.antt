@@ -1,6 +1,5 @@
 use Rattle.std.proofs.Common.{◌≡◌, ◌+◌, ◌-◌, ℕ, ap, subst, sym, ◌∙◌}
-use Rattle.script_tree.specs.declared.program.Stmt.{Stmt}
-use Rattle.fiber_body.specs.Shown.{Shown, stood}
+use Rattle.fiber_body.specs.Shown.{stood}
 use Rattle.fiber_body.specs.declared.standing.Standing.{Standing}
 use Rattle.fiber_body.specs.declared.standing.Standing.TheVariants.{At}
 use Rattle.fiber_poll.specs.Moving.{Goes, IsBefore}

@@ -1,12 +1,9 @@
-use Rattle.std.proofs.Common.{◌≡◌, ◌<◌, refl, sym, subst, arith, ◌∙◌}
+use Rattle.std.proofs.Common.{◌≡◌, ◌<◌, sym, subst, arith, ◌∙◌}
 use Rattle.std.specs.Bool.{OnFalse, OnTrue}
-use Rattle.std.proofs.lemmas.Result.{err_from_is_err_and}
-use Rattle.fiber_body.specs.declared.standing.Exit.TheVariants.{Spent}
-use Rattle.fiber_body.specs.declared.standing.Standing.TheVariants.{Out}
 use Rattle.fiber_body.specs.Phases.{calls}
-use Rattle.fiber_body.specs.Shown.{Shown, stood}
+use Rattle.fiber_body.specs.Shown.{Shown}
 use Rattle.fiber_body.specs.Statements.{first, result}
-use Rattle.fiber_poll.specs.Moving.{Goes, IsAt, IsBefore, weight}
+use Rattle.fiber_poll.specs.Moving.{Goes, IsBefore}
 use Rattle.fiber_poll.specs.UnderWay.{IsOn, IsUp}
 use Rattle.fiber_poll.proofs.Entering.{spent_goes}
 use Rattle.fiber_poll.proofs.Going.{on_gone, on_none}

@@ -73,6 +73,19 @@ module _ (s : Setting) where
   pub rest_ahead : (b p : ℕ) (fs : List Outer) (c : Context) → Turns s (out Next) (rest b p ∷ fs) c (at_stmt b p) fs c
   rest_ahead b p fs c tail y d ahead = record { front = []; back = tail; extent = whole Next; context = c; first = (refl, refl, refl); second = ahead; is = refl }
 
+  -- what may come of other things around, may come of these
+  around_ahead : (place : Place) (fs gs : List Outer) (c : Context) → ((front : List Happened) (z : Extent) (g : Context) → From s place c front z g
+      → (back : List Happened) (y : Extent) (d : Context) → Around s gs z g back y d → Around s fs z g back y d) → Turns s place fs c place gs c
+  around_ahead place fs gs c turns tail y d ahead = record {
+    front = ahead.front;
+    back = ahead.back;
+    extent = ahead.extent;
+    context = ahead.context;
+    first = ahead.first;
+    second = turns ahead.front ahead.extent ahead.context ahead.first ahead.back y d ahead.second;
+    is = ahead.is;
+  }
+
   -- any other exit passes the rest of a block
   passes : (b p : ℕ) (fs : List Outer) (z : Extent) (c : Context) (back : List Happened) (y : Extent) (d : Context)
       → z ≢ whole Next → Around s fs z c back y d → Around s (rest b p ∷ fs) z c back y d
@@ -80,15 +93,8 @@ module _ (s : Setting) where
   passes b p fs z c back y d apart around = around
 
   pub passes_ahead : (b p : ℕ) (fs : List Outer) (x : Exit) (c : Context) → x ≢ Next → Turns s (out x) (rest b p ∷ fs) c (out x) fs c
-  passes_ahead b p fs x c apart tail y d ahead = record {
-    front = ahead.front;
-    back = ahead.back;
-    extent = ahead.extent;
-    context = ahead.context;
-    first = ahead.first;
-    second = passes b p fs ahead.extent ahead.context ahead.back y d (λ e. let same : whole x ≡ whole Next = sym ahead.first.1 ∙ e in apart cc) ahead.second;
-    is = ahead.is;
-  }
+  passes_ahead b p fs x c apart = around_ahead (out x) (rest b p ∷ fs) fs c
+      (λ front z g first back y d around. passes b p fs z g back y d (λ e. let same : whole x ≡ whole Next = sym first.1 ∙ e in apart cc) around)
 
   -- where nothing is left of a block, it need not stand around
   nothing_left : (b p : ℕ) (fs : List Outer) → drop p (block_at s.script.blocks b) ≡ [] → (z : Extent) (c : Context) (back : List Happened) (y : Extent) (d : Context)
@@ -98,15 +104,7 @@ module _ (s : Setting) where
   nothing_left b p fs none z c back y d around = around
 
   pub nothing_ahead : (place : Place) (b p : ℕ) (fs : List Outer) (c : Context) → drop p (block_at s.script.blocks b) ≡ [] → Turns s place (rest b p ∷ fs) c place fs c
-  nothing_ahead place b p fs c none tail y d ahead = record {
-    front = ahead.front;
-    back = ahead.back;
-    extent = ahead.extent;
-    context = ahead.context;
-    first = ahead.first;
-    second = nothing_left b p fs none ahead.extent ahead.context ahead.back y d ahead.second;
-    is = ahead.is;
-  }
+  nothing_ahead place b p fs c none = around_ahead place (rest b p ∷ fs) fs c (λ front z g first back y d around. nothing_left b p fs none z g back y d around)
 
   -- ---- a statement of a block
 

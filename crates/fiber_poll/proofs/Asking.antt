@@ -91,11 +91,6 @@ taken_lighter b spot one reply at some =
     let light = behind_weight spot e.exit in
     omega (arith, there, before, light, e.steps, some)
 
-pub taken_live : (b : Shown) (spot : Spot) (one : Stmt) (reply : Reply) → (taken b spot (replied (stepped b.context) one reply)).standing ≢ Ended
-taken_live b spot one reply =
-    let e = ends_by_reply (stepped b.context) one reply in
-    subst (λ (z : Shown). z.standing ≢ Ended) (sym (taken_is b spot (stepped b.context) (replied (stepped b.context) one reply) e)) (behind_live spot e.exit)
-
 -- ---- where its entry leads
 
 module _ (a : Shown) (f : ℕ) (spot : Spot) (one : Stmt) (call : Call) (reply : Reply) (mine : List Happened) where

@@ -1,4 +1,5 @@
 pub mod Declared
+pub mod Blocks
 pub mod Newborn
 pub mod Popped
 mod Walking

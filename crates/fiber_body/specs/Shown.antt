@@ -1,5 +1,6 @@
 -- What contracts see of a fiber's body.
 use Rattle.std.specs.Prelude.{◌≡◌, ℕ, ◌<◌, Option, Some, None, List, [], ◌∷◌, ⊤}
+use Rattle.entry_log.specs.Logged.{Logged}
 use Rattle.pic_machine.specs.declared.birth.Birth.{Birth}
 use Rattle.pic_machine.specs.declared.entry.Entry.{Entry}
 use Rattle.pic_machine.specs.Sight.{Carry, nothing}
@@ -38,6 +39,11 @@ carry_of body = record {
 -- the body where it stands there, with so many steps left
 abbrev pub stood : Shown → Standing → ℕ → Shown
 stood body standing steps = record body { standing = standing; context = record body.context { steps = steps } }
+
+-- the log of a body with this number is that of its fiber; without a number it has no entry
+abbrev pub KeepsLog : Option ℕ → Logged → Type 0
+KeepsLog None log = log.entries ≡ []
+KeepsLog (Some fiber) log = log.fiber ≡ fiber
 
 -- two bodies have the same rest: what their statements read and write, and where they stand
 pub record IsSameRest (old new : Shown) : Type 0 where

@@ -1,4 +1,4 @@
-ghost use Rattle.std.specs.Prelude.{◌≡◌, ◌<◌, ◌-◌, ◌∷◌, Some, None, IfOk, IfSome, OnOk, OnErr, length, slice_get, slice_index, vec_len, vec_capacity};
+ghost use Rattle.std.specs.Prelude.{◌≡◌, ◌<◌, ◌-◌, ◌∷◌, Some, None, IfOk, IfSome, OnOk, OnErr, length, slice_get, slice_index};
 ghost use Rattle.std.specs.Option.{option_map};
 ghost use Rattle.std.specs.Arc.{arc_value};
 ghost use Rattle.script_tree.specs.WellFormed.{IsValue};
@@ -9,8 +9,9 @@ ghost use Rattle.fiber_body.specs.Texts.{block_in};
 
 use crate::standing::{Frame, Standing};
 use crate::texts::block_of;
+use entry_log::FiberLog;
 use pic_base::{CompNo, FiberNo, Memory, STEPS, Value};
-use pic_machine::{Birth, Entry};
+use pic_machine::Birth;
 use script_tree::{Operand, Program};
 use std::alloc::Global;
 use std::marker::Model;
@@ -34,11 +35,11 @@ pub(crate) struct Content {
     steps: u32,
     standing: Standing,
     frames: Vec<Frame>,
-    pub(crate) noted: Vec<Entry>,
+    pub(crate) noted: FiberLog,
 }
 
 impl Model for Body {
-    ghost use Rattle.std.specs.Prelude.{◌-◌, reverse, vec_len, vec_capacity};
+    ghost use Rattle.std.specs.Prelude.{reverse};
     ghost use Rattle.fiber_body.specs.Shown.{Shown};
     ghost use Rattle.std.specs.Option.{option_map};
     ghost use Rattle.std.specs.Arc.{arc_value};
@@ -57,14 +58,15 @@ impl Model for Body {
       };
       standing = body.content.value.standing;
       frames = reverse body.content.value.frames.items;
-      noted = body.content.value.noted.items;
-      room = vec_capacity body.content.value.noted - vec_len body.content.value.noted;
+      noted = body.content.value.noted.entries;
+      room = body.content.value.noted.room;
     } };
 
     ghost use Rattle.std.specs.List.{AllByRecursion};
-    ghost use Rattle.fiber_body.specs.Shown.{IsFrame};
+    ghost use Rattle.fiber_body.specs.Shown.{IsFrame, KeepsLog};
 
-    ghost invariant = { λ body. AllByRecursion IsFrame body.content.value.frames.items };
+    ghost invariant = { λ body. AllByRecursion IsFrame body.content.value.frames.items
+        × KeepsLog body.content.value.number body.content.value.noted };
 }
 
 impl Body {
@@ -125,7 +127,7 @@ impl Body {
             steps: STEPS,
             standing: Standing::At { block, place: 0 },
             frames: Vec::new(alloc),
-            noted: Vec::new(alloc),
+            noted: FiberLog::new(alloc, number.unwrap_or(0)),
         };
         Ok(Body {
             content: Box::new(alloc, content)?,
@@ -148,10 +150,11 @@ impl Body {
     }
 
     /// The visible entries of its fiber so far.
-    pub fn entries(&self) -> &[Entry]
-        ensures { result.now ≡ self.now.noted }
+    pub fn entries(&self) -> &FiberLog
+        ensures entries { result.now.entries ≡ self.now.noted }
+        ensures fiber { IfSome self.now.number (λ fiber. result.now.fiber ≡ fiber) }
     {
-        self.content.noted.as_slice()
+        &self.content.noted
     }
 
     /// The value of the register with this number.

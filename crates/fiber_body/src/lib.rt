@@ -22,8 +22,8 @@
 //! the calls on frames for all others; with `Numbers` they find the computations that statements name, and
 //! with `block_at` the statements of a block. Where a step of theirs leads they prove by the lemmas of
 //! `Framing` (one for each kind of row), and by `leads_segment` that the log follows its text there. Who
-//! begins a run uses `Body::new`, `Body::clock` and `start_of`. It stands on `pic_base`, `pic_machine` and
-//! `script_tree`.
+//! begins a run uses `Body::new`, `Body::clock` and `start_of`. It stands on `pic_base`, `pic_machine`,
+//! `entry_log` and `script_tree`.
 #![tactic(auto)]
 
 mod body;

@@ -47,16 +47,18 @@ fn a_body_begins_at_its_texts_first_statement(rt: HostRuntime) -> Result<(), Fai
 fn a_body_keeps_what_it_is_told(rt: HostRuntime) -> Result<(), Fail> {
     let mut body = Body::clock(rt.alloc())?;
     body.reserve()?;
-    let entry = Entry {
-        fiber: 0,
-        call: Call::Say(7),
-        reply: Reply::Plain,
-    };
-    body.note(entry);
+    body.note(Call::Say(7), Reply::Plain);
     body.set_register(3, 9);
     body.stand(Standing::Ending(Outcome::Cancelled(3)), 8);
     assert_eq!(rt; body.fiber(), 0);
-    assert_eq!(rt; body.entries()[0], entry);
+    assert_eq!(rt;
+        body.entries().last(),
+        Some(Entry {
+            fiber: 0,
+            call: Call::Say(7),
+            reply: Reply::Plain,
+        })
+    );
     assert_eq!(rt; body.register(3), 9);
     assert_eq!(rt; body.register(0), 0);
     assert_eq!(rt; body.value(Operand::Reg(3)), 9);
@@ -94,10 +96,7 @@ fn changed(
     place: usize,
     body: &mut Body,
 ) -> Result<Option<Exit>, Fail> {
-    let Some(block) = program.blocks.get(block as usize) else {
-        return Err("no such block".into());
-    };
-    match block.stmts.get(place) {
+    match block_at(program, block).get(place) {
         Some(stmt) => Ok(body.change(stmt)),
         None => Err("no such statement".into()),
     }

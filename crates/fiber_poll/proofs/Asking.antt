@@ -21,7 +21,7 @@ use Rattle.script_tree.specs.Tree.{Tree}
 use Rattle.script_tree.specs.WellFormed.{IsComp, IsOfSort, StmtFits}
 use Rattle.fiber_body.specs.declared.standing.Exit.{Exit}
 use Rattle.fiber_body.specs.declared.standing.Exit.TheVariants.{Next, Raised}
-use Rattle.fiber_body.specs.declared.standing.Standing.TheVariants.{At, Ended}
+use Rattle.fiber_body.specs.declared.standing.Standing.TheVariants.{At}
 use Rattle.fiber_body.specs.Around.{Leads, Outer, Place, at_stmt, rest, within}
 use Rattle.fiber_body.specs.Context.{Context, Setting, behind_decl, comp_in, comp_numbers, limit_met, stepped, with_register}
 use Rattle.fiber_body.specs.Fits.{LeadsTo, setting_of}

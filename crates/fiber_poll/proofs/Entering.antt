@@ -1,11 +1,9 @@
 -- Entering blocks and leaving them: what each makes of where a body stands.
-use Rattle.std.proofs.Common.{◌≡◌, ◌≢◌, ℕ, ◌+◌, ◌-◌, ◌<◌, nat_lt, cond, Bool, true, false, Option, Some, None, List, [], ◌∷◌, slice_get, refl, sym, ap, subst, ◌∙◌, arith}
-use Rattle.std.specs.Bool.{OnFalse, OnTrue}
+use Rattle.std.proofs.Common.{◌≡◌, ◌≢◌, ℕ, ◌+◌, ◌-◌, ◌<◌, ◌≤◌, nat_lt, cond, Bool, true, false, Option, Some, None, List, [], ◌∷◌, length, slice_get, refl, sym, ap, subst, ◌∙◌, arith}
+use Rattle.std.specs.Bool.{OnTrue}
 use Rattle.std.proofs.lemmas.Bool.Decides.{nat_tests}
-use Rattle.script_tree.specs.declared.program.Operand.{Operand}
 use Rattle.script_tree.specs.declared.program.Stmt.{Stmt}
 use Rattle.script_tree.specs.declared.program.Stmt.TheVariants as stmt
-use Rattle.script_tree.specs.declared.program.Test.{Test}
 use Rattle.fiber_body.specs.declared.standing.Exit.{Exit}
 use Rattle.fiber_body.specs.declared.standing.Exit.TheVariants.{Next, Raised, Broke, Spent}
 use Rattle.fiber_body.specs.declared.standing.Frame.{Frame}
@@ -15,42 +13,30 @@ use Rattle.fiber_body.specs.Around.{Turns, around_of, at_stmt, out, place_of, re
 use Rattle.fiber_body.specs.Context.{Context, block_at, stepped}
 use Rattle.fiber_body.specs.Fits.{setting_of}
 use Rattle.fiber_body.specs.Framing.{begins_ahead, closes_ahead, end_ahead, ends_ahead, enters_ahead, goes_ahead, nothing_ahead, passes_ahead, rest_ahead, spent_ahead}
-use Rattle.fiber_body.specs.Phases.{branches, repeating}
+use Rattle.fiber_body.specs.Phases.{repeating}
 use Rattle.fiber_body.specs.Places.{at_place, past_end}
 use Rattle.fiber_body.specs.Shown.{Shown, carry_of, stood}
-use Rattle.fiber_body.specs.Tables.{catches, ends_by, ends_text, goes_into, outcome_of, repeats, settles}
+use Rattle.fiber_body.specs.Tables.{catches, ends_by, ends_text, outcome_of, repeats, settles}
 use Rattle.fiber_body.specs.Texts.{script_in}
 use Rattle.fiber_poll.specs.declared.spot.Spot.{Spot}
-use Rattle.fiber_poll.specs.Moving.{EndsBlock, Goes, IsAt, IsBefore, behind_at, chosen, entered, passed, round_of}
-use Rattle.fiber_poll.proofs.Moves.{behind, begun_goes, ends_goes, framed, goes_by, goes_trans, headed, round_row, stands_at}
+use Rattle.fiber_poll.specs.Moving.{ChoosesBlock, Goes, IsAt, IsBefore, branched, entered, passed, round_of}
+use Rattle.fiber_poll.proofs.Moves.{before_on, behind, begun_goes, framed, goes_by, goes_trans, headed, round_row, same_blocks, stands_at}
 
 -- ---- entering
 
 module _ (a : Shown) (spot : Spot) where
   -- a test chose this block
-  pub branch_goes : (left right : Operand) (test : Test) (then block : ℕ) (other : Option ℕ) → IsBefore a spot (stmt.If left test right then other) → chosen a.context left test right then other ≡ Some block
-      → Goes a (entered a spot [] block)
-  branch_goes left right test then block other before some =
-      let row : settles (stepped a.context) (branches (chosen a.context left test right then other)) ≡ Some (goes_into block (stepped a.context)) = ap (λ (o : Option ℕ). settles (stepped a.context) (branches o)) some in
-      begun_goes before tt refl (λ q. cc) (λ f. goes_ahead (setting_of a f) (rest spot.block (spot.place + 1) ∷ framed a.frames) row)
+  branch_goes : (one : Stmt) (block : ℕ) → IsBefore a spot one → ChoosesBlock a.context one block → Goes a (entered a spot [] block)
+  branch_goes one block before chooses =
+      begun_goes before chooses.costs refl (λ q. cc) (λ f. goes_ahead (setting_of a f) (rest spot.block (spot.place + 1) ∷ framed a.frames) (chooses.row (a.context.steps - 1)))
 
   -- where it is the last statement of its block, no frame is needed
-  pub last_branch_goes : (left right : Operand) (test : Test) (then block : ℕ) (other : Option ℕ) → IsBefore a spot (stmt.If left test right then other) → chosen a.context left test right then other ≡ Some block
-      → EndsBlock a spot → Goes a (stood a (At block 0) (a.context.steps - 1))
-  last_branch_goes left right test then block other before some last =
-      goes_trans a (entered a spot [] block) (stood a (At block 0) (a.context.steps - 1)) (branch_goes left right test then block other before some) (goes_by (At block 0) refl refl (λ q. cc)
-      (λ f. let s = setting_of a f in nothing_ahead s (at_stmt block 0) spot.block (spot.place + 1) (framed a.frames) (stepped a.context) (past_end (block_at s.script.blocks spot.block) (spot.place + 1) last)))
-
-  pub branched_goes : (last : Bool) (b : Shown) (left right : Operand) (test : Test) (then block : ℕ) (other : Option ℕ) → IsBefore a spot (stmt.If left test right then other) → chosen a.context left test right then other ≡ Some block
-      → OnTrue last (EndsBlock a spot) → OnFalse last (b ≡ entered a spot [] block) → OnTrue last (b ≡ stood a (At block 0) (a.context.steps - 1)) → Goes a b
-  branched_goes true b left right test then block other before some over none is = subst (Goes a) (sym is) (last_branch_goes left right test then block other before some over)
-  branched_goes false b left right test then block other before some over is none = subst (Goes a) (sym is) (branch_goes left right test then block other before some)
-
-  -- or none
-  pub no_branch_goes : (left right : Operand) (test : Test) (then : ℕ) (other : Option ℕ) → IsBefore a spot (stmt.If left test right then other) → chosen a.context left test right then other ≡ None
-      → Goes a (stood a (behind_at spot Next) (a.context.steps - 1))
-  no_branch_goes left right test then other before none =
-      ends_goes Next (record a { context = stepped a.context }) before tt refl (ap (λ (o : Option ℕ). settles (stepped a.context) (branches o)) none)
+  branched_goes : (one : Stmt) (block : ℕ) (last : Bool) → IsBefore a spot one → ChoosesBlock a.context one block → OnTrue last (slice_get (block_at (script_in a.program).blocks spot.block) (spot.place + 1) ≡ None)
+      → Goes a (branched a spot block last)
+  branched_goes one block true before chooses over =
+      goes_trans a (entered a spot [] block) (stood a (At block 0) (a.context.steps - 1)) (branch_goes one block before chooses) (goes_by (At block 0) refl refl (λ q. cc)
+      (λ f. let s = setting_of a f in nothing_ahead s (at_stmt block 0) spot.block (spot.place + 1) (framed a.frames) (stepped a.context) (past_end (block_at s.script.blocks spot.block) (spot.place + 1) over)))
+  branched_goes one block false before chooses over = branch_goes one block before chooses
 
   pub loop_goes : (block : ℕ) → IsBefore a spot (stmt.Loop block) → Goes a (entered a spot (Repeats block ∷ []) block)
   loop_goes block before = goes_by (At spot.block spot.place) before.here.at refl (λ q. cc) (λ f tail y e ahead. let s = setting_of a f in
@@ -79,6 +65,19 @@ module _ (a : Shown) (spot : Spot) where
             spent_ahead s one spot.block spot.place (framed a.frames) c (at_place (block_at s.script.blocks spot.block) spot.place one here.is) refl;
         live = λ q. cc;
       })
+
+-- a test behind a run of statements chose a block
+module _ (old a : Shown) (block place n : ℕ) (goes : Goes old (stood a (At block place) n)) where
+  pub branch_on : (b : Shown) (stmts : List Stmt) (one : Stmt) (inner : ℕ) (last : Bool) → stmts ≡ block_at (script_in old.program).blocks block → length stmts ≤ 10000 → slice_get stmts place ≡ Some one → 0 < n
+      → ChoosesBlock a.context one inner → OnTrue last (slice_get stmts (place + 1) ≡ None) → b ≡ branched (stood a (At block place) n) (record { block = block; place = place }) inner last
+      → Goes old b
+  branch_on b stmts one inner last are few there some chooses over is =
+      let here = stood a (At block place) n in
+      let spot : Spot = record { block = block; place = place } in
+      let ends = subst (λ (ss : List Stmt). OnTrue last (slice_get ss (place + 1) ≡ None)) (same_blocks old a block place n goes stmts are) over in
+      let before = before_on old a block place n goes stmts one are few there some in
+      subst (Goes old) (sym is)
+      (goes_trans old here (branched here spot inner last) goes (branched_goes here spot one inner last before (record { costs = chooses.costs; row = chooses.row }) ends))
 
 -- a block has come to its end
 pub end_goes : (a : Shown) (block place : ℕ) → a.standing ≡ At block place → slice_get (block_at (script_in a.program).blocks block) place ≡ None → Goes a (stood a (Out Next) a.context.steps)

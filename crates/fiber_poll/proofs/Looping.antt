@@ -1,7 +1,6 @@
 -- What stands between two statements of a turn.
-use Rattle.std.proofs.Common.{◌≡◌, ◌≢◌, inl, inr, refl, ℕ, ◌≤◌, Option, Some, List, length, slice_get, sym, ap, subst, ◌∙◌, arith}
+use Rattle.std.proofs.Common.{◌≡◌, ◌≢◌, inl, inr, refl, ℕ, ◌≤◌, Option, Some, List, length, slice_get, sym, ap, subst, ◌∙◌}
 use Rattle.std.specs.Prelude.{IsTrue}
-use Rattle.std.proofs.lemmas.Option.{slice_get_within}
 use Rattle.pic_machine.specs.Lending.{Calm}
 use Rattle.pic_machine.specs.History.{IsLegal, world}
 use Rattle.pic_machine.specs.Log.{log}
@@ -14,12 +13,14 @@ use Rattle.fiber_body.specs.declared.standing.Standing.TheVariants.{At}
 use Rattle.fiber_body.specs.Context.{block_at}
 use Rattle.fiber_body.specs.Fits.{Fits, IsOver, MayBeOf}
 use Rattle.fiber_body.specs.Shown.{Shown, carry_of}
-use Rattle.fiber_body.specs.Texts.{script_in}
+use Rattle.fiber_body.specs.Texts.{EachFits, script_in}
 use Rattle.fiber_poll.specs.Built.{is_built}
 use Rattle.fiber_poll.specs.Moving.{Goes, IsAt, weight}
 use Rattle.fiber_poll.specs.Polls.{IsPortOf}
 use Rattle.fiber_poll.specs.UnderWay.{CanRun, IsOn, IsUp}
 use Rattle.fiber_poll.proofs.Going.{on_gone, on_trans, program_up}
+use Rattle.fiber_poll.proofs.Moves.{behind_within}
+use Rattle.fiber_poll.proofs.Ranges.{can_run}
 
 -- a part of the turn went in one block, in which the body stands still
 pub record IsInside (old new : Sight (Option Tree)) (body later : Shown) (before now : Option (List ℕ)) (block place : ℕ) : Type 0 where
@@ -40,15 +41,15 @@ pub at_found : {script tree : Tree} {port : Sight (Option Tree)} {body : Shown} 
 at_found {ss = ss} {block = block} {place = place} {s = s} of up same stmts few at is = record {
   at = at;
   is = subst (λ (xs : List Stmt). slice_get xs place ≡ Some s) (block_up block of up same stmts) is;
-  within = (let there = slice_get_within ss place s is in omega (arith, there, few));
+  within = behind_within ss place s is few;
 }
 
 -- and that one can be run
-pub can_found : {script tree : Tree} {ss : List Stmt} (block place : ℕ) {s : Stmt} → tree ≡ script → ss ≡ block_at tree.blocks block → IsTrue (is_built script) → slice_get ss place ≡ Some s
-    → (IsTrue (is_built tree) → (k : ℕ) (x : Stmt) → slice_get (block_at tree.blocks block) k ≡ Some x → CanRun tree x) → CanRun script s
-can_found block place {s} same stmts built there can =
+pub can_found : {script tree : Tree} {ss : List Stmt} (block place : ℕ) {s : Stmt} → tree ≡ script → ss ≡ block_at tree.blocks block → EachFits tree block ss → IsTrue (is_built script) → slice_get ss place ≡ Some s
+    → CanRun script s
+can_found {script} {tree} {ss} block place {s} same stmts fit built there =
     subst (λ (t : Tree). CanRun t s) same
-    (can (subst (λ (t : Tree). IsTrue (is_built t)) (sym same) built) place s (subst (λ (xs : List Stmt). slice_get xs place ≡ Some s) stmts there))
+    (can_run tree block place ss s (subst (λ (t : Tree). IsTrue (is_built t)) (sym same) built) stmts fit there)
 
 -- the body went on without a call
 pub on_with : {p q : Sight (Option Tree)} {a b d : Shown} {start now : Option (List ℕ)} → IsOn p q a b start now → Goes b d → IsOn p q a d start now

@@ -1,5 +1,5 @@
 -- Statements that come to their end at once, and rounds of a loop: what each makes of where a body stands.
-use Rattle.std.proofs.Common.{◌≡◌, ◌≢◌, ℕ, ◌+◌, ◌-◌, ◌<◌, ◌≤◌, nat_lt, true, Option, Some, None, List, [], ◌∷◌, ◌++◌, length, map, slice_get, refl, sym, ap, subst, ◌∙◌, arith}
+use Rattle.std.proofs.Common.{◌≡◌, ◌≢◌, ℕ, ◌+◌, ◌-◌, ◌^◌, ◌<◌, ◌≤◌, nat_lt, true, Option, Some, None, List, [], ◌∷◌, ◌++◌, length, map, slice_get, refl, sym, ap, subst, ◌∙◌, arith}
 use Rattle.std.specs.Prelude.{IfSome}
 use Rattle.std.proofs.lemmas.Bool.Decides.{nat_tests}
 use Rattle.std.proofs.lemmas.Option.{slice_get_within}
@@ -156,6 +156,10 @@ round_goes a block place n past first some =
 
 -- ---- a run of such statements
 
+-- there is a place behind a statement
+pub behind_within : (stmts : List Stmt) (place : ℕ) (one : Stmt) → slice_get stmts place ≡ Some one → length stmts ≤ 10000 → place + 1 < 2 ^ 32
+behind_within stmts place one there few = let within = slice_get_within stmts place one there in omega (arith, within, few)
+
 module _ (old a : Shown) (block place n : ℕ) (goes : Goes old (stood a (At block place) n)) where
   -- the body's program is that of the beginning
   pub same_blocks : (stmts : List Stmt) → stmts ≡ block_at (script_in old.program).blocks block → stmts ≡ block_at (script_in a.program).blocks block
@@ -166,16 +170,19 @@ module _ (old a : Shown) (block place n : ℕ) (goes : Goes old (stood a (At blo
       goes_trans old (stood a (At block place) n) (stood a (At block 0) (n - 1)) goes
       (round_goes a block place n (subst (λ (ss : List Stmt). slice_get ss place ≡ None) (same_blocks stmts are) past) first some)
 
+  pub before_on : (stmts : List Stmt) (one : Stmt) → stmts ≡ block_at (script_in old.program).blocks block → length stmts ≤ 10000 → slice_get stmts place ≡ Some one → 0 < n
+      → IsBefore (stood a (At block place) n) (record { block = block; place = place }) one
+  before_on stmts one are few there some = record {
+    here = record { at = refl; is = subst (λ (ss : List Stmt). slice_get ss place ≡ Some one) (same_blocks stmts are) there; within = behind_within stmts place one there few };
+    steps = some;
+  }
+
   pub statement_on : (b : Shown) (stmts : List Stmt) (one : Stmt) (x : Exit) → stmts ≡ block_at (script_in old.program).blocks block → length stmts ≤ 10000 → slice_get stmts place ≡ Some one → 0 < n → EndsAtOnce a b one x
       → Goes old (stood b (behind_at (record { block = block; place = place }) x) (n - 1))
   statement_on b stmts one x are few there some ends =
       let spot : Spot = record { block = block; place = place } in
-      let within = slice_get_within stmts place one there in
       goes_trans old (stood a (At block place) n) (stood b (behind_at spot x) (n - 1)) goes
-      (at_once_goes a b spot n one x (record {
-        here = record { at = refl; is = subst (λ (ss : List Stmt). slice_get ss place ≡ Some one) (same_blocks stmts are) there; within = omega (arith, within, few) };
-        steps = some;
-      }) ends)
+      (at_once_goes a b spot n one x (before_on stmts one are few there some) ends)
 
 -- a statement that ends at once leaves the frames
 pub same_frames : (a b : Shown) (one : Stmt) (x : Exit) → EndsAtOnce a b one x → length b.frames ≡ length a.frames

@@ -1,5 +1,5 @@
 -- How a body moves between two entries of its fiber. Only private contracts cite these words.
-use Rattle.std.specs.Prelude.{◌≡◌, ◌≢◌, ℕ, ◌+◌, ◌*◌, ◌-◌, ◌<◌, ◌^◌, nat_lt, cond, Option, Some, None, List, ◌∷◌, ◌++◌, length, slice_get, ⊤}
+use Rattle.std.specs.Prelude.{◌≡◌, ◌≢◌, ℕ, ◌+◌, ◌*◌, ◌-◌, ◌<◌, ◌^◌, nat_lt, cond, Bool, true, false, Option, Some, None, List, [], ◌∷◌, ◌++◌, length, slice_get, ⊤}
 use Rattle.script_tree.specs.declared.program.Operand.{Operand}
 use Rattle.script_tree.specs.declared.program.Stmt.{Stmt}
 use Rattle.script_tree.specs.declared.program.Stmt.TheVariants as stmt
@@ -16,8 +16,10 @@ use Rattle.fiber_body.specs.Fits.{setting_of}
 use Rattle.fiber_body.specs.Phases.{Phase, ended}
 use Rattle.fiber_body.specs.Shown.{Shown, carry_of, stood}
 use Rattle.fiber_body.specs.Statements.{begins, result}
-use Rattle.fiber_body.specs.Tables.{ends_by, settles}
+use Rattle.fiber_body.specs.Tables.{ends_by, goes_into, settles}
 use Rattle.fiber_body.specs.Texts.{script_in}
+use Rattle.fiber_poll.specs.declared.spot.AtOnce.{AtOnce}
+use Rattle.fiber_poll.specs.declared.spot.AtOnce.TheVariants.{Ends, Chooses, Waits}
 use Rattle.fiber_poll.specs.declared.spot.Spot.{Spot}
 
 -- ---- how much a turn may still do
@@ -54,10 +56,6 @@ pub record IsBefore (body : Shown) (spot : Spot) (one : Stmt) : Type 0 where
   pub here : IsAt body spot one
   pub steps : 0 < body.context.steps
 
--- no statement stands behind this place in its block
-abbrev pub EndsBlock : Shown → Spot → Type 0
-EndsBlock body spot = slice_get (block_at (script_in body.program).blocks spot.block) (spot.place + 1) ≡ None
-
 -- where a body stands once the statement at this place has ended so
 abbrev pub behind_at : Spot → Exit → Standing
 behind_at spot Next = At spot.block (spot.place + 1)
@@ -78,16 +76,35 @@ pub record EndsAtOnce (old new : Shown) (one : Stmt) (exit : Exit) : Type 0 wher
   pub row : (n : ℕ) → settles (record old.context { steps = n }) (begins (record old.context { steps = n }) one)
       ≡ Some (ends_by exit (record old.context { registers = registers; cells = cells; steps = n }))
 
--- a statement is left to do at this place of the block, which doesn't end at once where there is a step; or the block
--- is over
-pub record IsLeft (body : Shown) (stmts : List Stmt) (block place : ℕ) : Type 0 where
-  pub at : body.standing ≡ At block place
-  pub not_done : (one : Stmt) → slice_get stmts place ≡ Some one → 0 < body.context.steps
-      → result body.context.registers body.context.cells one ≡ None
-
 -- the block that a test chooses, if there is one
 abbrev pub chosen : Context → Operand → Test → Operand → ℕ → Option ℕ → Option ℕ
 chosen c left test right then other = cond (holds test (value c left) (value c right)) (Some then) other
+
+-- the statement is a test that chooses this block, however many steps are left
+pub record ChoosesBlock (c : Context) (one : Stmt) (block : ℕ) : Type 0 where
+  pub costs : CostsStep one
+  pub row : (n : ℕ) → settles (record c { steps = n }) (begins (record c { steps = n }) one) ≡ Some (goes_into block (record c { steps = n }))
+
+abbrev pub IsNoTest : Stmt → Type 0
+IsNoTest (stmt.If left test right then other) = ⊥
+IsNoTest _ = ⊤
+
+-- the statement has a call, or the block of a loop or of a handler
+pub record IsWaiting (c : Context) (one : Stmt) : Type 0 where
+  pub not_done : result c.registers c.cells one ≡ None
+  pub no_test : IsNoTest one
+
+-- what comes of the statement at once
+abbrev pub IsAtOnce : Shown → Shown → Stmt → AtOnce → Type 0
+IsAtOnce old new one (Ends exit) = EndsAtOnce old new one exit
+IsAtOnce old new one (Chooses block) = (new ≡ old) × ChoosesBlock old.context one block
+IsAtOnce old new one Waits = (new ≡ old) × IsWaiting old.context one
+
+-- a statement is left to do at this place of the block, of which nothing comes at once where there is a step; or the
+-- block is over
+pub record IsLeft (body : Shown) (stmts : List Stmt) (block place : ℕ) : Type 0 where
+  pub at : body.standing ≡ At block place
+  pub waits : (one : Stmt) → slice_get stmts place ≡ Some one → 0 < body.context.steps → IsWaiting body.context one
 
 -- ---- blocks
 
@@ -96,6 +113,11 @@ chosen c left test right then other = cond (holds test (value c left) (value c r
 abbrev pub entered : Shown → Spot → List Frame → ℕ → Shown
 entered body spot exits block =
     stood (record body { frames = exits ++ Rest spot.block (spot.place + 1) ∷ body.frames }) (At block 0) (body.context.steps - 1)
+
+-- the body in a block that a test chose: where no statement stands behind the test, no frame is needed
+abbrev pub branched : Shown → Spot → ℕ → Bool → Shown
+branched body spot block true = stood body (At block 0) (body.context.steps - 1)
+branched body spot block false = entered body spot [] block
 
 -- the block that runs again, where the innermost block has ended so: the body of a loop, which has a step for it
 abbrev pub round_of : Option Frame → Exit → ℕ → Option ℕ

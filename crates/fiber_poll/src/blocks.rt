@@ -1,10 +1,9 @@
 //! Blocks: entering them, and what is to be done where one has ended.
-ghost use Rattle.std.specs.Prelude.{◌≡◌, ◌<◌, ◌+◌, ◌-◌, ◌^◌, ◌++◌, [], slice_get, OnErr, OnOk};
-ghost use Rattle.std.specs.Bool.{OnFalse, OnTrue};
+ghost use Rattle.std.specs.Prelude.{◌≡◌, ◌<◌, ◌+◌, ◌^◌, slice_get, OnErr, OnOk};
 ghost use Rattle.std.specs.Option.{IfSome, option_to_list};
-ghost use Rattle.fiber_body.specs.Shown.{IsFrame, stood};
+ghost use Rattle.fiber_body.specs.Shown.{IsFrame};
 ghost use Rattle.fiber_body.specs.Tables.{outcome_of};
-ghost use Rattle.fiber_poll.specs.Moving.{Goes, entered, passed, round_of, weight};
+ghost use Rattle.fiber_poll.specs.Moving.{Goes, branched, entered, passed, round_of, weight};
 
 use crate::spot::Spot;
 use fiber_body::{Body, Exit, Frame, Standing};
@@ -47,8 +46,7 @@ pub(crate) fn enter(
 pub(crate) fn take_branch(body: &mut Body, spot: Spot, block: u32, last: bool) -> Result<(), Memory>
     requires steps { 0 < body.old.context.steps }
     requires within { spot.place + 1 < 2 ^ 32 }
-    ensures entered { OnOk result (OnFalse last (body.new ≡ entered body.old spot [] block)) }
-    ensures last { OnOk result (OnTrue last (body.new ≡ stood body.old (Standing.At block 0) (body.old.context.steps - 1))) }
+    ensures entered { OnOk result (body.new ≡ branched body.old spot block last) }
     ensures kept { OnErr result (body.new ≡ body.old) }
 {
     if !last {

@@ -35,3 +35,14 @@ pub(crate) enum Last {
     /// The fiber's end, with this outcome.
     End(Outcome),
 }
+
+/// What comes of a statement at once.
+#[derive(Clone, Copy)]
+pub(crate) enum AtOnce {
+    /// It has come to its end, in this way.
+    Ends(Exit),
+    /// It is a test, and chose this block.
+    Chooses(u32),
+    /// Nothing: it has a call, or the block of a loop or of a handler.
+    Waits,
+}

@@ -1,36 +1,29 @@
 //! Statements that don't come to their end at once: those with a block, and those with a call.
-ghost use Rattle.std.specs.Prelude.{◌≡◌, ◌≢◌, ◌<◌, ℕ, None, IfErr, IfOk, OnErr, OnOk};
+ghost use Rattle.std.specs.Prelude.{◌≡◌, ◌≢◌, ◌<◌, None, IfErr, IfOk, OnErr, OnOk};
 ghost use Rattle.std.specs.Bool.{OnFalse, OnTrue};
 ghost use Rattle.pic_machine.specs.Lending.{Calm, Faulted};
 ghost use Rattle.fiber_body.specs.Statements.{first, result as result_of};
 ghost use Rattle.fiber_body.specs.Phases.{calls};
-ghost use Rattle.fiber_poll.specs.Moving.{EndsBlock, Goes, IsBefore, weight};
+ghost use Rattle.fiber_poll.specs.Moving.{Goes, IsBefore, IsWaiting, weight};
 ghost use Rattle.fiber_poll.specs.Polls.{IsPortOf};
 ghost use Rattle.fiber_poll.specs.UnderWay.{CanRun, IsOn, IsUp};
 ghost use Rattle.script_tree.specs.Tree.{Tree};
 
-use crate::blocks::{enter, take_branch};
+use crate::blocks::enter;
 use crate::calls::{call_of, take};
 use crate::making::make;
 use crate::poller::ScriptPoller;
-use crate::silent::choose;
 use crate::spot::Spot;
-use fiber_body::{Body, Exit, Frame};
+use fiber_body::{Body, Frame};
 use pic_base::Memory;
 use pic_machine::{Carried, Port, PortFault, ReadyLine};
 use script_tree::Stmt;
 
-/// Enters the block of a statement, or goes on behind it where none is chosen. Answers false, and changes
-/// nothing, where the statement has no block. Whoever calls says where the statement is the last of its own.
-pub(crate) fn enter_block(
-    body: &mut Body,
-    spot: Spot,
-    stmt: &Stmt,
-    last: bool,
-) -> Result<bool, Memory>
+/// Enters the block of a loop, or that of a statement with a handler. Answers false, and changes nothing,
+/// where the statement has no block.
+pub(crate) fn enter_block(body: &mut Body, spot: Spot, stmt: &Stmt) -> Result<bool, Memory>
     requires before { IsBefore body.old spot stmt.now }
-    requires last { OnTrue last (EndsBlock body.old spot) }
-    requires not_done { result_of body.old.context.registers body.old.context.cells stmt.now ≡ None }
+    requires waits { IsWaiting body.old.context stmt.now }
     requires can { (script : Tree) × CanRun script stmt.now }
     ensures goes { IfOk result (λ has. OnTrue has (Goes body.old body.new)) }
     ensures lighter { IfOk result (λ has. OnTrue has (weight body.new < weight body.old)) }
@@ -39,16 +32,6 @@ pub(crate) fn enter_block(
     ensures kept { OnErr result (body.new ≡ body.old) }
 {
     match stmt {
-        Stmt::If {
-            left,
-            test,
-            right,
-            then,
-            other,
-        } => match choose(body, *left, *test, *right, *then, *other) {
-            Some(block) => take_branch(body, spot, block, last)?,
-            None => body.stand(spot.behind(Exit::Next), body.steps() - 1),
-        },
         Stmt::Loop(block) => enter(body, spot, Some(Frame::Repeats { block: *block }), *block)?,
         Stmt::Try {
             body: block,

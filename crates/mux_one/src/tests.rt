@@ -1,6 +1,6 @@
 //! Runs in the FIFO order, of bodies that yield so many times and then end.
 ghost use Rattle.pic_machine.proofs.Owns.{yields_own_below};
-ghost use Rattle.std.specs.Prelude.{◌≡◌, ◌≢◌, ◌+◌, ◌-◌, ◌≤◌, ◌<◌, [], Some, None, Err, length, vec_len, vec_capacity};
+ghost use Rattle.std.specs.Prelude.{◌≡◌, ◌≢◌, ◌+◌, ◌≤◌, ◌<◌, [], Some, None, Err, length};
 ghost use Rattle.std.proofs.Common.{◌∙◌, sym, arith, refl};
 ghost use Rattle.pic_base.specs.Steps.{most_steps};
 ghost use Rattle.pic_machine.specs.Log.{log, visible};
@@ -10,6 +10,7 @@ ghost use Rattle.pic_machine.specs.Turning.{Polled, Went};
 ghost use Rattle.pic_machine.specs.Lending.{Calm, Rose};
 
 use super::run_fifo;
+use entry_log::EntryLog;
 use pic_base::{FiberNo, Limits, Memory, Outcome};
 use pic_machine::{
     Birth, Call, Carried, Entry, Poller, Port, PortFault, ReadyLine, Reply, Start, Turn,
@@ -23,7 +24,7 @@ use std::test::Fail;
 struct Patient {
     birth: Birth,
     number: Option<FiberNo>,
-    noted: Vec<Entry>,
+    noted: EntryLog,
     left: u32,
     forks: bool,
 }
@@ -34,15 +35,15 @@ impl Carried for Patient {
     ghost seen = { λ body. record {
       birth = body.birth;
       number = body.number;
-      noted = body.noted.items;
-      room = vec_capacity body.noted - vec_len body.noted;
+      noted = body.noted.entries;
+      room = body.noted.room;
       owes = nothing;
       share = tt;
     } };
 
     ghost same_rest = { λ old new. new.left ≡ old.left };
 
-    ghost fits = { λ body log. (body.noted.items ≡ visible log)
+    ghost fits = { λ body log. (body.noted.entries ≡ visible log)
         × (body.number ≢ Some 0 → yields log + body.left ≤ most_steps) };
 
     fn birth(&self) -> Birth {
@@ -61,12 +62,12 @@ impl Carried for Patient {
     }
 
     fn reserve(&mut self) -> Result<(), Memory> {
-        self.noted.reserve(1)?;
-        Ok(())
+        self.noted.reserve()
     }
 
-    fn note(&mut self, entry: Entry) {
-        self.noted.push_reserved(entry);
+    fn note(&mut self, call: Call, reply: Reply) {
+        let fiber = self.fiber();
+        self.noted.push_reserved(Entry { fiber, call, reply });
     }
 
     ghost shows = { λ body log fits. fits.0 };
@@ -123,7 +124,7 @@ fn fork_and_stop<P: Port<Body = Patient>, R: ReadyLine>(
     requires fits { ⟦<Patient as Carried>⟧.fits body
         (log (P.sight port.old).front (fiber_of (⟦<Patient as Carried>⟧.seen body))) }
     requires left { 0 < body.left }
-    requires room { vec_len body.noted < vec_capacity body.noted }
+    requires room { 0 < body.noted.room }
     requires comps { 0 < length (P.sight port.old).origin.world.comps }
     ensures { Polled result ⟦<Patient as Carried>⟧.seen ⟦<Patient as Carried>⟧.fits
         (P.sight port.old) (P.sight port.new)
@@ -148,7 +149,7 @@ fn fork_child<P: Port<Body = Patient>, R: ReadyLine>(
     requires fiber { fiber_of (⟦<Patient as Carried>⟧.seen body.old) ≢ 0 }
     requires fits { ⟦<Patient as Carried>⟧.fits body.old
         (log (P.sight port.old).front (fiber_of (⟦<Patient as Carried>⟧.seen body.old))) }
-    requires room { vec_len body.old.noted < vec_capacity body.old.noted }
+    requires room { 0 < body.old.noted.room }
     requires comps { 0 < length (P.sight port.old).origin.world.comps }
     ensures went { Went (P.sight port.old) (P.sight port.new)
         (⟦<Patient as Carried>⟧.seen body.old) (⟦<Patient as Carried>⟧.seen body.new)
@@ -209,7 +210,7 @@ fn stop_with_room<P: Port<Body = Patient>, R: ReadyLine>(
     requires fits { ⟦<Patient as Carried>⟧.fits body
         (log (P.sight port.old).front (fiber_of (⟦<Patient as Carried>⟧.seen body))) }
     requires left { 0 < body.left }
-    requires room { vec_len body.noted < vec_capacity body.noted }
+    requires room { 0 < body.noted.room }
     ensures { Polled result ⟦<Patient as Carried>⟧.seen ⟦<Patient as Carried>⟧.fits
         (P.sight port.old) (P.sight port.new)
         (⟦<Patient as Carried>⟧.seen body) (R.told line.old) (R.told line.new) }
@@ -251,7 +252,7 @@ impl Patient {
     fn new(alloc: Global, text: u32, left: u32, forks: bool) -> Patient
         ensures birth { result.birth ≡ record { text = text; value = 0; current = 0 } }
         ensures number { result.number ≡ None }
-        ensures noted { result.noted.items ≡ [] }
+        ensures noted { result.noted.entries ≡ [] }
         ensures left { result.left ≡ left }
     {
         Patient {
@@ -261,7 +262,7 @@ impl Patient {
                 current: 0,
             },
             number: None,
-            noted: Vec::new(alloc),
+            noted: EntryLog::new(alloc),
             left,
             forks,
         }

@@ -59,25 +59,19 @@ impl World {
     }
 
     /// Makes one call of a fiber, and answers its reply.
+    #[inline(always)]
     pub fn apply(&mut self, fiber: FiberNo, call: Call) -> Result<Reply, Memory>
         requires { Allowed self.old fiber call }
         ensures reply { IfOk result (λ reply. reply ≡ reply_of self.old fiber call) }
         ensures after { OnOk result (self.new ≡ after self.old fiber call) }
         ensures err { OnErr result (self.new ≡ self.old) }
     {
+        // These stand in hot loops, and leave the world as it is.
         match call {
             Call::Turn => Ok(Reply::Plain),
             Call::Yield => Ok(Reply::Plain),
             Call::Say(_) => Ok(Reply::Plain),
-            Call::Complete { comp, outcome } => {
-                Ok(Reply::Completed(self.complete(comp, outcome)))
-            }
-            Call::Peek(comp) => Ok(Reply::Peeked(self.peek(comp))),
-            Call::Fork { .. } => self.fork(),
-            Call::End(outcome) => {
-                self.fibers[fiber as usize - 1] = FiberState::Ended(outcome);
-                Ok(Reply::Plain)
-            }
+            _ => self.change(fiber, call),
         }
     }
 
@@ -113,6 +107,27 @@ impl World {
 }
 
 impl World {
+    /// Makes a call that may change the world.
+    fn change(&mut self, fiber: FiberNo, call: Call) -> Result<Reply, Memory>
+        requires { Allowed self.old fiber call }
+        ensures reply { IfOk result (λ reply. reply ≡ reply_of self.old fiber call) }
+        ensures after { OnOk result (self.new ≡ after self.old fiber call) }
+        ensures err { OnErr result (self.new ≡ self.old) }
+    {
+        match call {
+            Call::Turn | Call::Yield | Call::Say(_) => Ok(Reply::Plain),
+            Call::Complete { comp, outcome } => {
+                Ok(Reply::Completed(self.complete(comp, outcome)))
+            }
+            Call::Peek(comp) => Ok(Reply::Peeked(self.peek(comp))),
+            Call::Fork { .. } => self.fork(),
+            Call::End(outcome) => {
+                self.fibers[fiber as usize - 1] = FiberState::Ended(outcome);
+                Ok(Reply::Plain)
+            }
+        }
+    }
+
     fn complete(&mut self, comp: CompNo, outcome: Outcome) -> CompleteReply
         requires { comp < length self.old.comps }
         ensures reply { Reply.Completed result ≡ completed (slice_get self.old.comps comp) }

@@ -1,9 +1,8 @@
 -- The text of a view of a history is the history's report.
 use Rattle.std.proofs.Common.{◌≡◌, ℕ, zero, suc, ◌+◌, ◌<◌, Bool, Option, Some, None, List, [], ◌∷◌, ◌++◌, length, replicate, slice_get, get_or, refl, sym, ap, subst, ◌∙◌, arith}
-use Rattle.std.specs.Prelude.{Vec}
-use Rattle.std.specs.Global.{Global}
 use Rattle.std.proofs.lemmas.List.{length-replicate}
 use Rattle.std.proofs.lemmas.Option.{slice_get-get_or, slice_get_within}
+use Rattle.entry_log.specs.Logged.{Recorded}
 use Rattle.pic_machine.specs.declared.entry.Entry.{Entry}
 use Rattle.pic_machine.specs.Happened.{Happened}
 use Rattle.pic_machine.specs.declared.state.CompState.{CompState}
@@ -24,7 +23,7 @@ use Rattle.pic_report.proofs.Told.{all_tell}
 
 -- ---- the trace
 
-trace_is : (names : List (List ℕ)) (hs : List Happened) (traced : Bool) (trace : Option (Vec Entry Global)) → IsTraceOf hs traced trace → traced_lines names trace ≡ trace_lines names traced (entries hs)
+trace_is : (names : List (List ℕ)) (hs : List Happened) (traced : Bool) (trace : Option Recorded) → IsTraceOf hs traced trace → traced_lines names trace ≡ trace_lines names traced (entries hs)
 trace_is names hs traced None is = rw is refl
 trace_is names hs traced (Some trace) is = rw (is.0, is.1) refl
 
@@ -73,7 +72,7 @@ module _ (script : Tree) (origin : Origin) (hs : List Happened) (traced with_log
   count_now : length (world origin hs).comps ≡ length script.decls + 1
   count_now = comps_stay origin hs ∙ (ap (λ (states : List CompState). length states) comps ∙ length-replicate (length script.decls + 1) Running)
 
-  logs_are : (i : ℕ) (seen : FiberView) → slice_get view.fibers.items i ≡ Some seen → seen.entries.items ≡ visible (log hs (1 + i))
+  logs_are : (i : ℕ) (seen : FiberView) → slice_get view.fibers.items i ≡ Some seen → seen.entries.entries ≡ visible (log hs (1 + i))
   logs_are i seen there =
       let fibers = (world origin hs).fibers in
       let within : i < length fibers = omega (arith, is.count, slice_get_within view.fibers.items i seen there) in
@@ -91,7 +90,7 @@ module _ (script : Tree) (origin : Origin) (hs : List Happened) (traced with_log
       let both : Some state ≡ Some told.state = sym there ∙ told.there in
       let same : state ≡ told.state = cc in (
         ap outcome_of same ∙ told.is,
-        all_tell c hs (comp_once origin hs c is.legal runs) view.fibers.items view.clock_entries.items logs_are is.clock (λ x made. let within = completer_made origin hs c x is.legal made in omega (arith, within, is.count)),
+        all_tell c hs (comp_once origin hs c is.legal runs) view.fibers.items view.clock_entries.entries logs_are is.clock (λ x made. let within = completer_made origin hs c x is.legal made in omega (arith, within, is.count)),
       )
 
   main_is : (states : List FiberState) (views : List FiberView) → length views ≡ length states → AreViews script origin hs with_log 1 states views → main_state views ≡ slice_get states 0

@@ -72,7 +72,7 @@ module _ (origin : Origin) (share : Option Tree) (history : List Happened) (clos
     by_place place state view is seen (inl found) = viewed place found.0 state view found.2 is (taken.each place found.0 view found.2 seen)
     by_place place state view is seen (inr past) = absurd (omega (arith, past.0, left.left.count, slice_get_within (world origin history).fibers place state is))
 
-  pub view_left : (traced logged : Bool) (view : RunView) → AreTakenFrom closed.bodies.items view.fibers.items → view.clock_entries.items ≡ closed.clock.noted → view.now ≡ closed.now → IsTraceOf history traced view.trace → view.log ≡ logged
+  pub view_left : (traced logged : Bool) (view : RunView) → AreTakenFrom closed.bodies.items view.fibers.items → view.clock_entries.entries ≡ closed.clock.noted → view.now ≡ closed.now → IsTraceOf history traced view.trace → view.log ≡ logged
       → IsViewOf origin history traced logged view
   view_left traced logged view taken clock now trace logs = record {
     legal = left.left.legal;

@@ -1,8 +1,8 @@
 -- What of a run a report is made from, and the text that is made from it.
 use Rattle.std.proofs.Common.{zero, suc}
-use Rattle.std.specs.Prelude.{◌≡◌, ℕ, ◌+◌, Bool, true, false, Option, Some, None, List, [], ◌∷◌, ◌++◌, Vec, codes, length, replicate, slice_get}
-use Rattle.std.specs.Global.{Global}
+use Rattle.std.specs.Prelude.{◌≡◌, ℕ, ◌+◌, Bool, true, false, Option, Some, None, List, [], ◌∷◌, ◌++◌, codes, length, replicate, slice_get}
 use Rattle.std.specs.List.{flat_map}
+use Rattle.entry_log.specs.Logged.{Recorded}
 use Rattle.pic_machine.specs.declared.birth.Birth.{Birth}
 use Rattle.pic_machine.specs.declared.closed.Closed.{Closed}
 use Rattle.pic_machine.specs.declared.entry.Entry.{Entry}
@@ -37,9 +37,9 @@ pub record IsLeftOf (origin : Origin) (share : Option Tree) (history : List Happ
   pub final : IsFinal (world origin history)
 
 -- the trace, where there is one, is the history's entries
-abbrev pub IsTraceOf : List Happened → Bool → Option (Vec Entry Global) → Type 0
+abbrev pub IsTraceOf : List Happened → Bool → Option Recorded → Type 0
 IsTraceOf history traced None = traced ≡ false
-IsTraceOf history traced (Some trace) = (traced ≡ true) × (trace.items ≡ entries history)
+IsTraceOf history traced (Some trace) = (traced ≡ true) × (trace.entries ≡ entries history)
 
 -- the view is that of fiber f, which stands so: its text is that of its birth, and it has its visible
 -- entries
@@ -48,7 +48,7 @@ pub record IsFiberView (origin : Origin) (history : List Happened) (f : ℕ) (st
   pub born : birth_in origin history f ≡ Some birth
   pub text : view.text ≡ birth.text
   pub state_is : view.state ≡ state
-  pub noted : view.entries.items ≡ visible (log history f)
+  pub noted : view.entries.entries ≡ visible (log history f)
 
 -- the view has what a report of the history needs: each fiber in order, what the clock did, the time,
 -- and the trace and the wish for logs
@@ -58,7 +58,7 @@ pub record IsViewOf (origin : Origin) (history : List Happened) (traced logged :
   pub fiber : (place : ℕ) (state : FiberState) (seen : FiberView)
       → slice_get (world origin history).fibers place ≡ Some state → slice_get view.fibers.items place ≡ Some seen
       → IsFiberView origin history (place + 1) state seen
-  pub clock : view.clock_entries.items ≡ visible (log history 0)
+  pub clock : view.clock_entries.entries ≡ visible (log history 0)
   pub now : view.now ≡ time history
   pub traces : IsTraceOf history traced view.trace
   pub logs : view.log ≡ logged
@@ -66,13 +66,13 @@ pub record IsViewOf (origin : Origin) (history : List Happened) (traced logged :
 -- ---- to a text
 
 -- the lines of the trace, where there is one
-abbrev pub traced_lines : List (List ℕ) → Option (Vec Entry Global) → List (List ℕ)
+abbrev pub traced_lines : List (List ℕ) → Option Recorded → List (List ℕ)
 traced_lines names None = []
-traced_lines names (Some trace) = trace_lines names true trace.items
+traced_lines names (Some trace) = trace_lines names true trace.entries
 
 -- the lines of a fiber with this number
 abbrev pub viewed_lines : List (List ℕ) → Bool → ℕ → FiberView → List (List ℕ)
-viewed_lines names with_log f view = fiber_lines names with_log (text_name names view.text) f view.state view.entries.items
+viewed_lines names with_log f view = fiber_lines names with_log (text_name names view.text) f view.state view.entries.entries
 
 -- the lines of the fibers from number f on
 abbrev pub views_lines : List (List ℕ) → Bool → ℕ → List FiberView → List (List ℕ)
@@ -81,7 +81,7 @@ views_lines names with_log f (view ∷ views) = viewed_lines names with_log f vi
 
 -- the entries of all fibers, and those of the clock
 abbrev pub all_entries : RunView → List Entry
-all_entries view = flat_map (λ (fiber : FiberView). fiber.entries.items) view.fibers.items ++ view.clock_entries.items
+all_entries view = flat_map (λ (fiber : FiberView). fiber.entries.entries) view.fibers.items ++ view.clock_entries.entries
 
 -- the lines of so many computations from number c on, each of which is as the entries tell
 abbrev pub told_lines : List (List ℕ) → List Entry → ℕ → ℕ → List (List ℕ)

@@ -7,6 +7,7 @@ ghost use Rattle.pic_report.specs.Report.{joined, text_names};
 use crate::entry_texts::EntryText;
 use crate::output::put_line;
 use crate::refusal::ReportRefusal;
+use entry_log::EntryIter;
 use pic_io::Sink;
 use pic_machine::Entry;
 use script_tree::Program;
@@ -23,16 +24,16 @@ pub(crate) enum Place {
 /// Writes a line for each entry, in order.
 pub(crate) fn put_entries<K: Sink>(
     program: &Program,
-    entries: &[Entry],
+    entries: EntryIter<'_>,
     place: Place,
     buffer: &mut String,
     out: &mut K,
 ) -> Result<(), ReportRefusal>
     ensures { Puts (K.taken out.old) (K.taken out.new) (K.fault_count out.old) (K.fault_count out.new)
-        (joined (map (entry_line place (text_names program.now)) entries.now)) result }
+        (joined (map (entry_line place (text_names program.now)) entries.entry)) result }
 {
     for entry in entries {
-        put_entry(program, *entry, place, buffer, out)?;
+        put_entry(program, entry, place, buffer, out)?;
     }
     Ok(())
 }

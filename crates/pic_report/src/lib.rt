@@ -4,7 +4,7 @@
 //! `write_report` writes it to a sink, line by line. `specs/Report.antt` defines the text of a report
 //! of a history, with `EntryText` for the texts of entries; `View` says what a view has of a history,
 //! and which text is written of a view; `Output` says how a text was written. It stands on `pic_base`,
-//! `pic_io`, `pic_machine`, `script_tree` and `fiber_body`.
+//! `pic_io`, `pic_machine`, `entry_log`, `script_tree`, `fiber_body` and the kit's `itoa`.
 #![tactic(auto)]
 
 mod completions;

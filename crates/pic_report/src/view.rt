@@ -8,9 +8,10 @@ ghost use Rattle.pic_report.specs.Report.{report};
 ghost use Rattle.pic_report.specs.View.{BeginsRunning, IsLeftOf, IsTraceOf, IsViewOf, main_state, view_text};
 ghost use Rattle.pic_report.specs.Taken.{IsTakenFrom, AreTakenFrom};
 
+use entry_log::{EntryLog, FiberLog};
 use fiber_body::Body;
 use pic_base::Memory;
-use pic_machine::{Call, Closed, Entry, FiberState};
+use pic_machine::{Call, Closed, FiberState};
 use std::alloc::Global;
 
 /// What a report tells of a fiber: the text that it runs, a place among the program's texts, how it
@@ -19,7 +20,7 @@ use std::alloc::Global;
 pub struct FiberView {
     pub text: u32,
     pub state: FiberState,
-    pub entries: Vec<Entry>,
+    pub entries: FiberLog,
 }
 
 /// What a report tells of a run: the fibers in order from 1, the clock's entries and the time that it
@@ -28,9 +29,9 @@ pub struct FiberView {
 #[derive(Drop)]
 pub struct RunView {
     pub fibers: Vec<FiberView>,
-    pub clock_entries: Vec<Entry>,
+    pub clock_entries: FiberLog,
     pub now: u32,
-    pub trace: Option<Vec<Entry>>,
+    pub trace: Option<EntryLog>,
     pub log: bool,
 }
 
@@ -50,7 +51,7 @@ impl RunView {
 pub fn view_of(
     alloc: Global,
     closed: Closed<Body>,
-    trace: Option<Vec<Entry>>,
+    trace: Option<EntryLog>,
     log: bool,
 ) -> Result<RunView, Memory>
     ensures view { IfOk result (λ view. (origin : Origin) (share : Option Tree)
@@ -93,16 +94,16 @@ fn fiber_view(body: Body) -> FiberView
     let entries = body.into_entries();
     FiberView {
         text,
-        state: fate(entries.as_slice()),
+        state: fate(&entries),
         entries,
     }
 }
 
 /// How a fiber stands that did this: its end is the last that it does.
-fn fate(entries: &[Entry]) -> FiberState
-    ensures { result ≡ fate entries.now }
+fn fate(entries: &FiberLog) -> FiberState
+    ensures { result ≡ fate entries.now.entries }
 {
-    match entries.last().copied() {
+    match entries.last() {
         Some(entry) => ended_in(entry.call),
         None => FiberState::Live,
     }

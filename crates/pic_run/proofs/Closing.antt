@@ -1,13 +1,11 @@
 -- From what is left of the port, once a run is over, to what is told of the run.
 use Rattle.std.proofs.Common.{◌≡◌, ◌≢◌, ℕ, zero, suc, ◌+◌, ◌<◌, ◌≤◌, ◌⊎◌, inl, inr, Bool, true, false, Option, Some, None, List, [], ◌∷◌, length, slice_get, get_or, refl, sym, ap, subst, ◌∙◌, arith}
-use Rattle.std.specs.Prelude.{All, Vec}
+use Rattle.std.specs.Prelude.{All}
 use Rattle.std.specs.Bool.{then_some}
-use Rattle.std.specs.Global.{Global}
 use Rattle.std.proofs.lemmas.Option.{slice_get_cases}
 use Rattle.pic_base.specs.declared.outcome.Outcome.TheVariants.{Returned, Cancelled}
 use Rattle.pic_machine.specs.declared.birth.Birth.{Birth}
 use Rattle.pic_machine.specs.declared.closed.Closed.{Closed}
-use Rattle.pic_machine.specs.declared.entry.Entry.{Entry}
 use Rattle.pic_machine.specs.Happened.{Happened}
 use Rattle.pic_machine.specs.declared.state.FiberState.{FiberState}
 use Rattle.pic_machine.specs.declared.state.FiberState.TheVariants.{Live, Ended}
@@ -18,6 +16,7 @@ use Rattle.pic_machine.specs.Log.{entries, log}
 use Rattle.pic_machine.specs.Closing.{IsLeft}
 use Rattle.pic_machine.specs.Home.{IsBodyOf}
 use Rattle.pic_machine.proofs.Fresh.{birth_of_made, fibers_grow}
+use Rattle.entry_log.specs.Logged.{Recorded}
 use Rattle.port_plain.specs.Shown.{Shown as Port, origin_in}
 use Rattle.script_tree.specs.Tree.{Tree}
 use Rattle.fiber_body.specs.Follows.{FollowsText}
@@ -58,7 +57,7 @@ main_seen (view ∷ views) (state ∷ states) count are = ap Some (are 0 state v
 -- ---- the trace
 
 -- the entries that the port hands over are the trace, where it is asked for
-pub trace_of_stored : (hs : List Happened) (traced : Bool) (stored : Vec Entry Global) (trace : Option (Vec Entry Global)) → stored.items ≡ entries hs → trace ≡ then_some traced stored → IsTraceOf hs traced trace
+pub trace_of_stored : (hs : List Happened) (traced : Bool) (stored : Recorded) (trace : Option Recorded) → stored.entries ≡ entries hs → trace ≡ then_some traced stored → IsTraceOf hs traced trace
 trace_of_stored hs true stored trace are is = subst (IsTraceOf hs true) (sym is) (refl, are)
 trace_of_stored hs false stored trace are is = subst (IsTraceOf hs false) (sym is) refl
 

@@ -125,16 +125,16 @@ module _ {B S : Type 0} (seen : B → Carry S) (port : Shown B) where
 module _ {B S : Type 0} (seen : B → Carry S) (port new : Shown B) (owing : Bool) (f : ℕ) (call : Call) (reply : Reply) (made : new ≡ with_entry port (happening owing f call reply)) (follows : Follows (origin_in seen port) port.front (happening owing f call reply)) where
   lent_for : (a b : Carry S) → Holds (sight_of seen port) a → a.number ≡ Some f → EndsNone call → is_turn call ≡ false → is_hidden call reply ≡ false
       → owed_of (after (world (origin_in seen port) port.front) f call) (fiber_of a) ≡ owed_of (world (origin_in seen port) port.front) (fiber_of a)
-      → Notes a b ((happening owing f call reply).entry ∷ []) → Lent (sight_of seen port) (sight_of seen new) a b (happening owing (fiber_of a) call reply)
+      → Notes a b ((happening owing (fiber_of a) call reply).entry ∷ []) → Lent (sight_of seen port) (sight_of seen new) a b (happening owing (fiber_of a) call reply)
   lent_for a b holds number acts within shown same notes =
       let is : fiber_of a ≡ f = fiber_is a f number in
       subst (λ (q : Shown B). Lent (sight_of seen port) (sight_of seen q) a b (happening owing (fiber_of a) call reply)) (sym made)
       (subst (λ (n : ℕ). Lent (sight_of seen port) (sight_of seen (with_entry port (happening owing f call reply))) a b (happening owing n call reply)) (sym is)
-      (lent seen port (happening owing f call reply) holds.legal follows a b holds (sym is) within acts same (shown_notes a b (happening owing f call reply) shown notes)))
+      (lent seen port (happening owing f call reply) holds.legal follows a b holds (sym is) within acts same (shown_notes a b (happening owing f call reply) shown (rw (sym is) notes))))
 
 -- the body owes what its fiber owes, so the entry has the mark that it tells
 module _ {B S : Type 0} (seen : B → Carry S) (port new : Shown B) (f : ℕ) (call : Call) (reply : Reply) (made : new ≡ with_entry port (marked seen port f call reply)) (follows : Follows (origin_in seen port) port.front (marked seen port f call reply)) where
-  pub lent_answered : (a b : Carry S) → Holds (sight_of seen port) a → a.number ≡ Some f → IsLent call → Notes a b ((marked seen port f call reply).entry ∷ []) → Answered (sight_of seen port) (sight_of seen new) a b call reply
+  pub lent_answered : (a b : Carry S) → Holds (sight_of seen port) a → a.number ≡ Some f → IsLent call → Notes a b ((event (fiber_of a) call reply).entry ∷ []) → Answered (sight_of seen port) (sight_of seen new) a b call reply
   lent_answered a b holds number is notes =
       let w : State = world (origin_in seen port) port.front in
       let owes : owed_of w f ≡ listed a.owes = sym (holds.owes ∙ ap (owed_of w) (fiber_is a f number)) in
@@ -196,11 +196,11 @@ module _ {B S : Type 0} (seen : B → Carry S) (fits : B → List Happened → T
       (front_made seen port h holds.legal h_follows None)
 
   -- the body comes home with the entry
-  pub finished_home : (noted : B) → Notes (seen body) (seen noted) ((marked seen port f call reply).entry ∷ []) → same_rest body noted → FitsWith seen same_rest fits body (log port.front (fiber_of (seen body))) h → IsAtHome seen fits new (fiber_of (seen noted)) noted
+  pub finished_home : (noted : B) → Notes (seen body) (seen noted) ((event (fiber_of (seen body)) call reply).entry ∷ []) → same_rest body noted → FitsWith seen same_rest fits body (log port.front (fiber_of (seen body))) h → IsAtHome seen fits new (fiber_of (seen noted)) noted
   finished_home noted notes rest fitting =
       let g : ℕ = fiber_of (seen body) in
       let same : fiber_of (seen noted) ≡ g = ap (λ (m : Option ℕ). fiber_of (record (seen body) { number = m })) notes.number in
-      let noted_h : Notes (seen body) (seen noted) (h.entry ∷ []) = subst (λ (x : Happened). Notes (seen body) (seen noted) (x.entry ∷ [])) is_h notes in
+      let noted_h : Notes (seen body) (seen noted) (h.entry ∷ []) = subst (λ (r : Reply). Notes (seen body) (seen noted) ((event g call r).entry ∷ [])) is_plain notes in
       let owes : listed (seen noted).owes ≡ owed_of (world (origin_in seen port) (port.front ++ h ∷ [])) g =
       ap listed notes.owes ∙ (holds.owes ∙ sym (owes_pushed (origin_in seen port) port.front h g (last_leaves call last))) in
       let home : IsAtHome seen fits (with_entry port h) g noted =
@@ -212,16 +212,16 @@ module _ {B S : Type 0} (seen : B → Carry S) (fits : B → List Happened → T
 
 module _ {B S : Type 0} (seen : B → Carry S) (port new : Shown B) (f text value : ℕ) (a b : Carry S) (holds : Holds (sight_of seen port) a) (number : a.number ≡ Some f) where
   pub fork_lent : (n : ℕ) (child : Carry S) → IsChild (sight_of seen port) child text value → new ≡ with_entry port (forked f n child.birth) → Follows (origin_in seen port) port.front (forked f n child.birth)
-      → Notes a b (record { fiber = f; call = Fork text value; reply = reply.Made n } ∷ []) → Lent (sight_of seen port) (sight_of seen new) a b (forked (fiber_of a) n child.birth)
+      → Notes a b (record { fiber = fiber_of a; call = Fork text value; reply = reply.Made n } ∷ []) → Lent (sight_of seen port) (sight_of seen new) a b (forked (fiber_of a) n child.birth)
   fork_lent n child is_child made follows notes =
       let is : fiber_of a ≡ f = fiber_is a f number in
-      let noted : Notes a b ((forked f n child.birth).entry ∷ []) = rw (is_child.same_text, is_child.same_value) notes in
+      let noted : Notes a b ((forked f n child.birth).entry ∷ []) = rw (sym is, is_child.same_text, is_child.same_value) notes in
       subst (λ (q : Shown B). Lent (sight_of seen port) (sight_of seen q) a b (forked (fiber_of a) n child.birth)) (sym made)
       (subst (λ (m : ℕ). Lent (sight_of seen port) (sight_of seen (with_entry port (forked f n child.birth))) a b (forked m n child.birth)) (sym is)
       (lent seen port (forked f n child.birth) holds.legal follows a b holds (sym is) refl tt
       (owed_left (world (origin_in seen port) port.front) f (Fork child.birth.text child.birth.value) (fiber_of a) tt) (shown_notes a b (forked f n child.birth) refl noted)))
 
-  pub fork_full : (fault : PortFault) → fault ≡ Full → NoFiber seen fault port new f (Fork text value) → Notes a b (record { fiber = f; call = Fork text value; reply = reply.Full } ∷ []) → RefusesMaking Full (sight_of seen port) (sight_of seen new) a b (Fork text value)
+  pub fork_full : (fault : PortFault) → fault ≡ Full → NoFiber seen fault port new f (Fork text value) → Notes a b (record { fiber = fiber_of a; call = Fork text value; reply = reply.Full } ∷ []) → RefusesMaking Full (sight_of seen port) (sight_of seen new) a b (Fork text value)
   fork_full fault is none notes =
       let full : NoFiber seen Full port new f (Fork text value) = subst (λ (x : PortFault). NoFiber seen x port new f (Fork text value)) is none in
       lent_for seen port new false f (Fork text value) reply.Full full.0 full.1 a b holds number tt refl refl (owed_left (world (origin_in seen port) port.front) f (Fork text value) (fiber_of a) tt) notes

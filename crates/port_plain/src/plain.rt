@@ -6,8 +6,9 @@ ghost use Rattle.pic_machine.specs.History.{IsLegal, world};
 ghost use Rattle.pic_machine.specs.Log.{entries};
 ghost use Rattle.port_plain.specs.Shown.{IsMain, IsClock, births_in, origin_in};
 
+use entry_log::EntryLog;
 use pic_base::{FiberNo, Memory};
-use pic_machine::{Birth, Carried, Entry, Start, World};
+use pic_machine::{Birth, Carried, Start, World};
 use std::alloc::Global;
 use std::marker::Model;
 use std::snapshot::Snapshot;
@@ -25,7 +26,7 @@ pub struct PlainPort<B: Carried> {
     start: Start,
     main: Snapshot<B>,
     world: World,
-    history: Vec<Entry>,
+    history: EntryLog,
     /// Apart from the history, since few of its entries make a fiber.
     births: Vec<Birth>,
     bodies: Vec<Option<B>>,
@@ -44,14 +45,14 @@ impl<B: Carried> Model for PlainPort<B> {
     ghost view = { λ port. record {
       start = port.start;
       main = port.main.value;
-      front = paired (world_at port.start) port.history.items port.births.items;
+      front = paired (world_at port.start) port.history.entries port.births.items;
       out = port.out;
     } };
 
     ghost invariant = { λ port. IsStored B.seen B.fits
-        (record { start = port.start; main = port.main.value; front = paired (world_at port.start) port.history.items port.births.items; out = port.out })
+        (record { start = port.start; main = port.main.value; front = paired (world_at port.start) port.history.entries port.births.items; out = port.out })
         port.world port.bodies.items port.clock
-        × HasEachBirth port.history.items port.births.items };
+        × HasEachBirth port.history.entries port.births.items };
 }
 
 impl<B: Carried> PlainPort<B> {
@@ -64,11 +65,11 @@ impl<B: Carried> PlainPort<B> {
     }
 
     /// The entries of all that happened so far.
-    pub fn history(&self) -> &[Entry]
-        ensures entries { result.now ≡ entries self.now.front }
+    pub fn history(&self) -> &EntryLog
+        ensures entries { result.now.entries ≡ entries self.now.front }
         ensures legal { IsLegal (origin_in B.seen self.now) self.now.front }
     {
-        self.history.as_slice()
+        &self.history
     }
 
     /// The births of the fibers that were made so far, in order. Main wasn't made by an entry.

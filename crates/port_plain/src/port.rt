@@ -7,9 +7,7 @@ ghost use Rattle.port_plain.specs.Shown.{origin_in, sight_of};
 
 use crate::plain::{PlainPort, reply};
 use pic_base::{CompNo, FiberNo, Outcome, Value};
-use pic_machine::{
-    Call, Carried, ClaimRefusal, CompleteReply, Entry, Idle, Port, PortFault, Reply,
-};
+use pic_machine::{Call, Carried, ClaimRefusal, CompleteReply, Idle, Port, PortFault, Reply};
 
 impl<B: Carried + Send> Port for PlainPort<B> {
     type Body = B;
@@ -57,19 +55,11 @@ impl<B: Carried + Send> Port for PlainPort<B> {
         let call = Call::Fork { text, value };
         match self.make_fiber(fiber, text, value, child) {
             Ok(number) => {
-                body.note(Entry {
-                    fiber,
-                    call,
-                    reply: Reply::Made(number),
-                });
+                body.note(call, Reply::Made(number));
                 Ok(number)
             }
             Err((child, PortFault::Full)) => {
-                body.note(Entry {
-                    fiber,
-                    call,
-                    reply: Reply::Full,
-                });
+                body.note(call, Reply::Full);
                 Err((child, PortFault::Full))
             }
             Err((child, PortFault::Again)) => Err((child, PortFault::Again)),

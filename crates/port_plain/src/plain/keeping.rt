@@ -11,6 +11,7 @@ use pic_machine::{Call, Carried, Entry, PortFault, Reply};
 
 impl<B: Carried> PlainPort<B> {
     /// Makes a call of the fiber whose body is out, and stores the entry.
+    #[inline(always)]
     pub(crate) fn make(&mut self, fiber: FiberNo, call: Call) -> Result<Reply, Memory>
         requires out { self.old.out ≡ Some fiber }
         requires may { MayMake (origin_in B.seen self.old) self.old.front fiber call }
@@ -23,7 +24,7 @@ impl<B: Carried> PlainPort<B> {
         ensures err { OnErr result (self.new ≡ self.old) }
     {
         // Room first, so that an entry is stored wherever its call was made.
-        self.history.reserve(1)?;
+        self.history.reserve()?;
         let reply = self.world.apply(fiber, call)?;
         self.history.push_reserved(Entry { fiber, call, reply });
         Ok(reply)
@@ -81,7 +82,7 @@ impl<B: Carried> PlainPort<B> {
         let mut child = child;
         // Room first, so that the entry and the birth are stored, and the child kept, wherever the fiber
         // was made.
-        if self.history.reserve(1).is_err()
+        if self.history.reserve().is_err()
             || self.births.reserve(1).is_err()
             || self.bodies.reserve(1).is_err()
         {

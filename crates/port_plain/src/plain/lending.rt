@@ -8,10 +8,11 @@ ghost use Rattle.pic_machine.specs.Lending.{Answered, FitsWith, Made, Refuses};
 ghost use Rattle.port_plain.specs.Shown.{IsLast, IsLent, origin_in, sight_of};
 
 use super::PlainPort;
-use pic_machine::{Call, Carried, Entry, PortFault, Reply};
+use pic_machine::{Call, Carried, PortFault, Reply};
 
 impl<B: Carried> PlainPort<B> {
     /// Makes a call of the body's fiber, and notes its entry.
+    #[inline(always)]
     pub(crate) fn lend(&mut self, body: &mut B, call: Call) -> Result<Reply, PortFault>
         requires can { CanMake (sight_of B.seen self.old) (B.seen body.old) call }
         requires lent { IsLent call }
@@ -27,11 +28,12 @@ impl<B: Carried> PlainPort<B> {
         let Ok(reply) = self.make(fiber, call) else {
             return Err(PortFault::Memory);
         };
-        body.note(Entry { fiber, call, reply });
+        body.note(call, reply);
         Ok(reply)
     }
 
     /// Makes the last call of a turn of the body's fiber, notes its entry, and takes the body back.
+    #[inline(always)]
     pub(crate) fn finish(&mut self, body: B, call: Call) -> Result<(), (B, PortFault)>
         requires can { CanMake (sight_of B.seen self.old) (B.seen body) call }
         requires last { IsLast call }
@@ -49,7 +51,7 @@ impl<B: Carried> PlainPort<B> {
         let Ok(reply) = self.make(fiber, call) else {
             return Err((body, PortFault::Memory));
         };
-        body.note(Entry { fiber, call, reply });
+        body.note(call, reply);
         self.keep(body);
         Ok(())
     }

@@ -7,8 +7,9 @@ ghost use Rattle.port_plain.specs.Closing.{OwesAsLeft};
 ghost use Rattle.port_plain.specs.Shown.{IsClock, IsMain, origin_in, sight_of};
 
 use super::PlainPort;
+use entry_log::EntryLog;
 use pic_base::Memory;
-use pic_machine::{Carried, Closed, Entry, Start, World};
+use pic_machine::{Carried, Closed, Start, World};
 use std::alloc::Global;
 use std::snapshot::Snapshot;
 
@@ -33,7 +34,7 @@ impl<B: Carried> PlainPort<B> {
             start: *start,
             main: of_main,
             world: World::start(alloc, start)?,
-            history: Vec::new(alloc),
+            history: EntryLog::new(alloc),
             births: Vec::new(alloc),
             bodies,
             clock,
@@ -54,12 +55,12 @@ impl<B: Carried> PlainPort<B> {
     }
 
     /// The same, and beside it the entries of all that happened, which aren't copied.
-    pub fn close_with_history(self) -> Result<(Closed<B>, Vec<Entry>), PlainPort<B>>
+    pub fn close_with_history(self) -> Result<(Closed<B>, EntryLog), PlainPort<B>>
         requires { self.out ≡ None }
         ensures left { IfOk result (λ left. IsLeft B.seen B.fits
             (origin_in B.seen self) (B.seen self.main).share self.front left.0) }
         ensures owes { IfOk result (λ left. OwesAsLeft B.seen (sight_of B.seen self) left.0) }
-        ensures history { IfOk result (λ left. left.1.items ≡ entries self.front) }
+        ensures history { IfOk result (λ left. left.1.entries ≡ entries self.front) }
         ensures err { IfErr result (λ port. port ≡ self) }
     {
         let mut bodies = Vec::new(self.alloc);

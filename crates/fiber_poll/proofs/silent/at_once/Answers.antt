@@ -7,8 +7,8 @@ use Rattle.fiber_poll.specs.Moving.{EndsAtOnce, chosen}
 use Rattle.fiber_poll.proofs.Moves.{not_chosen, unchanged}
 use Rattle.fiber_poll.proofs.silent.at_once.Goals as goal
 
-pub returns-in-None-clause-ends : goal.returns-in-None-clause-ends
-returns-in-None-clause-ends c =
+pub returns-in-None : goal.returns-in-None
+returns-in-None c =
     let old : Shown = c.args.body.now in
     let kept = (unchanged old c.change.new.self c.args.stmt.now (result old.context.registers old.context.cells c.args.stmt.now) c.change.result c.change.ensures c.in_default.is).0 in
     let none = ap (λ (b : Shown). chosen b.context c.in-If.left c.in-If.test c.in-If.right c.in-If.then c.in-If.other) (sym kept) ∙ (sym c.choose.ensures ∙ c.in-None.is) in

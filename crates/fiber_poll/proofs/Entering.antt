@@ -19,7 +19,7 @@ use Rattle.fiber_body.specs.Shown.{Shown, carry_of, stood}
 use Rattle.fiber_body.specs.Tables.{catches, ends_by, ends_text, outcome_of, repeats, settles}
 use Rattle.fiber_body.specs.Texts.{script_in}
 use Rattle.fiber_poll.specs.declared.spot.Spot.{Spot}
-use Rattle.fiber_poll.specs.Moving.{ChoosesBlock, Goes, IsAt, IsBefore, branched, entered, passed, round_of}
+use Rattle.fiber_poll.specs.Moving.{ChoosesBlock, Goes, IsAt, IsBefore, branched, entered, passed, round_of, weight}
 use Rattle.fiber_poll.proofs.Moves.{before_on, behind, begun_goes, framed, goes_by, goes_trans, headed, round_row, same_blocks, stands_at}
 
 -- ---- entering
@@ -78,6 +78,15 @@ module _ (old a : Shown) (block place n : ℕ) (goes : Goes old (stood a (At blo
       let before = before_on old a block place n goes stmts one are few there some in
       subst (Goes old) (sym is)
       (goes_trans old here (branched here spot inner last) goes (branched_goes here spot one inner last before (record { costs = chooses.costs; row = chooses.row }) ends))
+
+-- the body stands at the beginning of the block then, with a step fewer and less to do
+pub branched_stands : (a : Shown) (spot : Spot) (block : ℕ) (last : Bool) → branched a spot block last ≡ stood (branched a spot block last) (At block 0) (a.context.steps - 1)
+branched_stands a spot block true = refl
+branched_stands a spot block false = refl
+
+pub branched_lighter : (a : Shown) (spot : Spot) (block : ℕ) (last : Bool) (from place n : ℕ) → 0 < n → weight (branched (stood a (At from place) n) spot block last) < weight (stood a (At from place) n)
+branched_lighter a spot block true from place n some = omega (arith, some)
+branched_lighter a spot block false from place n some = omega (arith, some)
 
 -- a block has come to its end
 pub end_goes : (a : Shown) (block place : ℕ) → a.standing ≡ At block place → slice_get (block_at (script_in a.program).blocks block) place ≡ None → Goes a (stood a (Out Next) a.context.steps)

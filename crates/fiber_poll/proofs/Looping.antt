@@ -1,7 +1,6 @@
 -- What stands between two statements of a turn.
 use Rattle.std.proofs.Common.{◌≡◌, ◌≢◌, inl, inr, refl, ℕ, ◌≤◌, Option, Some, List, length, slice_get, sym, ap, subst, ◌∙◌}
 use Rattle.std.specs.Prelude.{IsTrue}
-use Rattle.pic_machine.specs.Lending.{Calm}
 use Rattle.pic_machine.specs.History.{IsLegal, world}
 use Rattle.pic_machine.specs.Log.{log}
 use Rattle.pic_machine.specs.Sight.{Holds, Sight, fiber_of}
@@ -15,19 +14,12 @@ use Rattle.fiber_body.specs.Fits.{Fits, IsOver, MayBeOf}
 use Rattle.fiber_body.specs.Shown.{Shown, carry_of}
 use Rattle.fiber_body.specs.Texts.{EachFits, script_in}
 use Rattle.fiber_poll.specs.Built.{is_built}
-use Rattle.fiber_poll.specs.Moving.{Goes, IsAt, weight}
+use Rattle.fiber_poll.specs.Moving.{Goes, IsAt}
 use Rattle.fiber_poll.specs.Polls.{IsPortOf}
 use Rattle.fiber_poll.specs.UnderWay.{CanRun, IsOn, IsUp}
 use Rattle.fiber_poll.proofs.Going.{on_gone, on_trans, program_up}
 use Rattle.fiber_poll.proofs.Moves.{behind_within}
 use Rattle.fiber_poll.proofs.Ranges.{can_run}
-
--- a part of the turn went in one block, in which the body stands still
-pub record IsInside (old new : Sight (Option Tree)) (body later : Shown) (before now : Option (List ℕ)) (block place : ℕ) : Type 0 where
-  pub on : IsOn old new body later before now
-  pub calm : Calm old new
-  pub at : later.standing ≡ At block place
-  pub lighter : weight later ≤ weight body
 
 -- the block's statements are the body's
 pub block_up : {script tree : Tree} {port : Sight (Option Tree)} {body : Shown} {ss : List Stmt} (block : ℕ) → IsPortOf script port → IsUp port body → tree ≡ script → ss ≡ block_at tree.blocks block

@@ -12,7 +12,7 @@ use Rattle.script_tree.specs.Tree.{Tree}
 use Rattle.fiber_body.specs.declared.standing.Exit.{Exit}
 use Rattle.fiber_body.specs.declared.standing.Exit.TheVariants.{Next}
 use Rattle.fiber_body.specs.declared.standing.Frame.{Frame}
-use Rattle.fiber_body.specs.declared.standing.Frame.TheVariants.{Repeats}
+use Rattle.fiber_body.specs.declared.standing.Frame.TheVariants.{Repeats, Rest}
 use Rattle.fiber_body.specs.declared.standing.Standing.{Standing}
 use Rattle.fiber_body.specs.declared.standing.Standing.TheVariants.{At, Ended}
 use Rattle.fiber_body.specs.Around.{Outer, Turns, around_of, at_stmt, out, outer_of, place_of, rest, within, work}
@@ -21,12 +21,12 @@ use Rattle.fiber_body.specs.Fits.{setting_of}
 use Rattle.fiber_body.specs.Framing.{begins_ahead, closes_ahead, end_ahead, ends_ahead, enters_ahead, passes_ahead, rest_ahead}
 use Rattle.fiber_body.specs.Phases.{branches, repeating}
 use Rattle.fiber_body.specs.Places.{at_place, past_end}
-use Rattle.fiber_body.specs.Shown.{IsChanged, Shown, carry_of, stood}
+use Rattle.fiber_body.specs.Shown.{IsChanged, IsPopped, Shown, carry_of, stood}
 use Rattle.fiber_body.specs.Statements.{Effect, begins, or_first, result}
 use Rattle.fiber_body.specs.Tables.{encloses, ends_by, ends_text, repeats, settles}
 use Rattle.fiber_body.specs.Texts.{script_in}
 use Rattle.fiber_poll.specs.declared.spot.Spot.{Spot}
-use Rattle.fiber_poll.specs.Moving.{CostsStep, EndsAtOnce, Goes, IsBefore, behind_at, chosen}
+use Rattle.fiber_poll.specs.Moving.{CostsStep, EndsAtOnce, Goes, IsBefore, WentOn, behind_at, chosen}
 
 -- what is around these frames, within a text
 abbrev pub framed : List Frame → List Outer
@@ -139,20 +139,57 @@ pub headed : (frames : List Frame) (frame : Frame) → slice_get frames 0 ≡ So
 headed [] frame is = absurd cc
 headed (first ∷ frames) frame is = (frames, let same : first ≡ frame = cc in ap (λ (x : Frame). x ∷ frames) same)
 
--- the block has come to its end, and is the body of a loop
-pub round_goes : (a : Shown) (block place n : ℕ) → slice_get (block_at (script_in a.program).blocks block) place ≡ None → slice_get a.frames 0 ≡ Some (Repeats block) → 0 < n
-    → Goes (stood a (At block place) n) (stood a (At block 0) (n - 1))
-round_goes a block place n past first some =
-    let found = headed a.frames (Repeats block) first in
+-- the block has come to its end, and the loop around it goes round
+pub round_goes : (a : Shown) (block place n again : ℕ) → slice_get (block_at (script_in a.program).blocks block) place ≡ None → slice_get a.frames 0 ≡ Some (Repeats again) → 0 < n
+    → Goes (stood a (At block place) n) (stood a (At again 0) (n - 1))
+round_goes a block place n again past first some =
+    let found = headed a.frames (Repeats again) first in
     let c : Context = record a.context { steps = n } in
     record {
       same = refl;
       turns = λ f. let s = setting_of a f in
-          subst (λ (frames : List Frame). Turns s (at_stmt block place) (framed frames) c (at_stmt block 0) (framed frames) (stepped c)) (sym found.1)
-          (λ tail y e ahead. end_ahead s block place (framed (Repeats block ∷ found.0)) c (past_end (block_at s.script.blocks block) place past) tail y e
-          (closes_ahead s (repeats block) (framed found.0) Next c tail y e (enters_ahead s (framed found.0) (round_row block c some) tail y e ahead)));
+          subst (λ (frames : List Frame). Turns s (at_stmt block place) (framed frames) c (at_stmt again 0) (framed frames) (stepped c)) (sym found.1)
+          (λ tail y e ahead. end_ahead s block place (framed (Repeats again ∷ found.0)) c (past_end (block_at s.script.blocks block) place past) tail y e
+          (closes_ahead s (repeats again) (framed found.0) Next c tail y e (enters_ahead s (framed found.0) (round_row again c some) tail y e ahead)));
       live = λ q. cc;
     }
+
+-- the block has come to its end, and the one around it goes on
+pub rest_goes_on : (a : Shown) (block place n outer_block next : ℕ) (outer : List Frame) → slice_get (block_at (script_in a.program).blocks block) place ≡ None → a.frames ≡ Rest outer_block next ∷ outer
+    → Goes (stood a (At block place) n) (stood (record a { frames = outer }) (At outer_block next) n)
+rest_goes_on a block place n outer_block next outer past is =
+    let c : Context = record a.context { steps = n } in
+    record {
+      same = refl;
+      turns = λ f. let s = setting_of a f in
+          subst (λ (frames : List Frame). Turns s (at_stmt block place) (framed frames) c (at_stmt outer_block next) (framed outer) c) (sym is)
+          (λ tail y e ahead. end_ahead s block place (framed (Rest outer_block next ∷ outer)) c (past_end (block_at s.script.blocks block) place past) tail y e
+          (rest_ahead s outer_block next (framed outer) c tail y e ahead));
+      live = λ q. cc;
+    }
+
+-- the frame that is taken away is the innermost one
+pub popped_first : (old new : Shown) (taken : Option Frame) (frame : Frame) → IsPopped old new taken → slice_get old.frames 0 ≡ Some frame
+    → (outer : List Frame) × (old.frames ≡ frame ∷ outer) × (new ≡ record old { frames = outer })
+popped_first old new None frame none first = absurd (let no_frame : slice_get old.frames 0 ≡ None = ap (λ (frames : List Frame). slice_get frames 0) none.0 in cc)
+popped_first old new (Some top) frame some first =
+    let there : slice_get old.frames 0 ≡ Some top = ap (λ (frames : List Frame). slice_get frames 0) some.1 in
+    let same : top ≡ frame = cc in
+    (some.0, some.1 ∙ ap (λ (x : Frame). x ∷ some.0) same, some.2)
+
+-- so the body went on, with less to do
+pub went_round : (a : Shown) (block place n again : ℕ) → slice_get (block_at (script_in a.program).blocks block) place ≡ None → slice_get a.frames 0 ≡ Some (Repeats again) → 0 < n
+    → WentOn (stood a (At block place) n) (stood a (At again 0) (n - 1))
+went_round a block place n again past first some = record { goes = round_goes a block place n again past first some; lighter = omega (arith, some) }
+
+pub went_behind : (a b : Shown) (taken : Option Frame) (block place n outer_block next : ℕ) → slice_get (block_at (script_in a.program).blocks block) place ≡ None → slice_get a.frames 0 ≡ Some (Rest outer_block next) → IsPopped a b taken
+    → WentOn (stood a (At block place) n) (stood b (At outer_block next) n)
+went_behind a b taken block place n outer_block next past first popped =
+    let found = popped_first a b taken (Rest outer_block next) popped first in
+    let outer : List Frame = found.0 in
+    let fewer : length a.frames ≡ length outer + 1 = ap (λ (frames : List Frame). length frames) found.1 ∙ omega arith in
+    subst (λ (z : Shown). WentOn (stood a (At block place) n) (stood z (At outer_block next) n)) (sym found.2)
+    (record { goes = rest_goes_on a block place n outer_block next outer past found.1; lighter = omega (arith, fewer) })
 
 -- ---- a run of such statements
 
@@ -164,11 +201,6 @@ module _ (old a : Shown) (block place n : ℕ) (goes : Goes old (stood a (At blo
   -- the body's program is that of the beginning
   pub same_blocks : (stmts : List Stmt) → stmts ≡ block_at (script_in old.program).blocks block → stmts ≡ block_at (script_in a.program).blocks block
   same_blocks stmts is = is ∙ ap (λ (c : Carry (Option Tree)). block_at (script_in c.share).blocks block) (sym goes.same)
-
-  pub round_on : (stmts : List Stmt) → stmts ≡ block_at (script_in old.program).blocks block → slice_get stmts place ≡ None → slice_get a.frames 0 ≡ Some (Repeats block) → 0 < n → Goes old (stood a (At block 0) (n - 1))
-  round_on stmts are past first some =
-      goes_trans old (stood a (At block place) n) (stood a (At block 0) (n - 1)) goes
-      (round_goes a block place n (subst (λ (ss : List Stmt). slice_get ss place ≡ None) (same_blocks stmts are) past) first some)
 
   pub before_on : (stmts : List Stmt) (one : Stmt) → stmts ≡ block_at (script_in old.program).blocks block → length stmts ≤ 10000 → slice_get stmts place ≡ Some one → 0 < n
       → IsBefore (stood a (At block place) n) (record { block = block; place = place }) one

@@ -4,6 +4,7 @@ use Rattle.script_tree.specs.declared.program.Operand.{Operand}
 use Rattle.script_tree.specs.declared.program.Stmt.{Stmt}
 use Rattle.script_tree.specs.declared.program.Stmt.TheVariants as stmt
 use Rattle.script_tree.specs.declared.program.Test.{Test}
+use Rattle.script_tree.specs.Tree.{Tree}
 use Rattle.fiber_body.specs.declared.standing.Exit.{Exit}
 use Rattle.fiber_body.specs.declared.standing.Exit.TheVariants.{Next, Raised, Broke, Spent}
 use Rattle.fiber_body.specs.declared.standing.Frame.{Frame}
@@ -100,11 +101,16 @@ IsAtOnce old new one (Ends exit) = EndsAtOnce old new one exit
 IsAtOnce old new one (Chooses block) = (new ≡ old) × ChoosesBlock old.context one block
 IsAtOnce old new one Waits = (new ≡ old) × IsWaiting old.context one
 
--- a statement is left to do at this place of the block, of which nothing comes at once where there is a step; or the
--- block is over
-pub record IsLeft (body : Shown) (stmts : List Stmt) (block place : ℕ) : Type 0 where
-  pub at : body.standing ≡ At block place
-  pub waits : (one : Stmt) → slice_get stmts place ≡ Some one → 0 < body.context.steps → IsWaiting body.context one
+-- the body stands at this place, and nothing comes at once of the statement there, where there is a step; or the block
+-- is over
+pub record IsLeft (script : Tree) (body : Shown) (spot : Spot) : Type 0 where
+  pub at : body.standing ≡ At spot.block spot.place
+  pub waits : (one : Stmt) → slice_get (block_at script.blocks spot.block) spot.place ≡ Some one → 0 < body.context.steps → IsWaiting body.context one
+
+-- the body went on without a statement, and has less to do
+pub record WentOn (old new : Shown) : Type 0 where
+  pub goes : Goes old new
+  pub lighter : weight new < weight old
 
 -- ---- blocks
 

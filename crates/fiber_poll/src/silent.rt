@@ -1,57 +1,62 @@
-//! Statements of one block that come to their end without a call and without a block, and tests that choose a
-//! block.
+//! Statements that come to their end without a call, through the blocks that tests choose and around loops.
 ghost use Rattle.std.specs.Prelude.{◌≡◌, ◌≤◌, ◌<◌, ℕ, None, Some, Ok, IfOk, IfSome, length, slice_get};
-ghost use Rattle.std.specs.Bool.{OnTrue};
 ghost use Rattle.script_tree.specs.Tree.{Tree};
 ghost use Rattle.script_tree.specs.WellFormed.{IsValue, StmtFits};
 ghost use Rattle.fiber_body.specs.Context.{block_at};
-ghost use Rattle.fiber_body.specs.Texts.{script_in};
-ghost use Rattle.fiber_poll.specs.Moving.{Goes, IsAtOnce, IsLeft, chosen, weight};
+ghost use Rattle.fiber_body.specs.Shown.{stood};
+ghost use Rattle.fiber_body.specs.Texts.{EachFits, script_in};
+ghost use Rattle.fiber_poll.specs.Moving.{Goes, IsAtOnce, IsLeft, WentOn, chosen, weight};
 
 use crate::blocks::take_branch;
 use crate::spot::{AtOnce, Spot};
 use crate::values::holds;
-use fiber_body::{Body, Exit, Frame, Standing};
+use fiber_body::{Body, Exit, Frame, Standing, block_at};
 use pic_base::Memory;
-use script_tree::{Operand, Stmt, Test};
+use script_tree::{Operand, Program, Stmt, Test};
 
-/// Runs the statements from this place on, as long as each comes to its end at once and has a step, and
-/// the block again where it is the body of a loop. Answers the place of what is left to do, or None
-/// where a statement has ended the block or chosen another one, in which the body stands then. The steps
-/// and the place are kept apart until then, so most statements cost little.
+/// Runs the statements from this place on, as long as each comes to its end at once and has a step: into the
+/// blocks that tests choose, on behind them, and around loops. Answers the place of what is left to do, or
+/// None where a statement has ended its block otherwise. The steps and the place are kept apart until
+/// then, so most statements cost little.
 pub(crate) fn run_silently(
+    program: &Program,
     body: &mut Body,
-    stmts: &[Stmt],
     block: u32,
     place: u32,
-) -> Result<Option<u32>, Memory>
+) -> Result<Option<Spot>, Memory>
+    requires program { script_in body.old.program ≡ program.now }
     requires at { body.old.standing ≡ Standing.At block place }
-    requires stmts { stmts.now ≡ block_at (script_in body.old.program).blocks block }
-    requires few { length stmts.now ≤ 10000 }
-    requires fit { (k : ℕ) (one : Stmt) → slice_get stmts.now k ≡ Some one → (tree : Tree) × (holder : ℕ) × StmtFits tree holder one }
     ensures goes { Goes body.old body.new }
     ensures no_heavier { weight body.new ≤ weight body.old }
     ensures lighter { result ≡ Ok None → weight body.new < weight body.old }
-    ensures left { IfOk result (λ left. IfSome left (λ place. IsLeft body.new stmts.now block place)) }
+    ensures left { IfOk result (λ left. IfSome left (λ spot. IsLeft program.now body.new spot)) }
 {
-    let mut place = place;
+    let mut spot = Spot { block, place };
+    let mut stmts = block_at(program, block);
     let mut steps = body.steps();
     while steps > 0 {
-        let Some(stmt) = stmt_at(stmts, place) else {
-            if !repeats(body, block) {
+        let Some(stmt) = stmt_at(stmts, spot.place) else {
+            let Some((next, left)) = go_on(body, spot, steps) else {
                 break;
-            }
-            place = 0;
-            steps -= 1;
+            };
+            stmts = stmts_of(program, stmts, spot.block, next.block);
+            spot = next;
+            steps = left;
             continue;
         };
         let exit = match at_once(body, stmt) {
             AtOnce::Ends(exit) => exit,
             AtOnce::Chooses(inner) => {
-                body.stand(Standing::At { block, place }, steps);
-                let last = stmt_at(stmts, place + 1).is_none();
-                take_branch(body, Spot { block, place }, inner, last)?;
-                return Ok(None);
+                let last = stmt_at(stmts, spot.place + 1).is_none();
+                body.stand(spot.here(), steps);
+                take_branch(body, spot, inner, last)?;
+                spot = Spot {
+                    block: inner,
+                    place: 0,
+                };
+                stmts = block_at(program, inner);
+                steps -= 1;
+                continue;
             }
             AtOnce::Waits => break,
         };
@@ -60,10 +65,48 @@ pub(crate) fn run_silently(
             body.stand(Standing::Out(exit), steps);
             return Ok(None);
         };
-        place += 1;
+        spot.place += 1;
     }
-    body.stand(Standing::At { block, place }, steps);
-    Ok(Some(place))
+    body.stand(spot.here(), steps);
+    Ok(Some(spot))
+}
+
+/// Where the body goes on, and with how many steps, once its block has come to its end with so many left:
+/// behind the block, or with the loop's next round, for which there is a step. Answers None, and then
+/// nothing has changed, where there is more to do at the exit.
+#[inline(always)]
+fn go_on(body: &mut Body, spot: Spot, steps: u32) -> Option<(Spot, u32)>
+    requires steps { 0 < steps }
+    requires over { slice_get (block_at (script_in body.old.program).blocks spot.block) spot.place ≡ None }
+    ensures went { IfSome result (λ next. WentOn (stood body.old (Standing.At spot.block spot.place) steps)
+        (stood body.new (Standing.At next.0.block next.0.place) next.1)) }
+    ensures kept { result ≡ None → body.new ≡ body.old }
+{
+    match body.innermost()? {
+        Frame::Rest { block, place } => {
+            body.pop_frame();
+            Some((Spot { block, place }, steps))
+        }
+        Frame::Repeats { block } => Some((Spot { block, place: 0 }, steps - 1)),
+        Frame::Catches { .. } => None,
+    }
+}
+
+/// The statements of a block, where these are those of the present one: most rounds stay in one block.
+#[inline(always)]
+fn stmts_of<'a>(program: &'a Program, stmts: &'a [Stmt], present: u32, block: u32) -> &'a [Stmt]
+    requires are { stmts.now ≡ block_at program.now.blocks present }
+    requires few { length stmts.now ≤ 10000 }
+    requires fit { EachFits program.now present stmts.now }
+    ensures is { result.now ≡ block_at program.now.blocks block }
+    ensures few { length result.now ≤ 10000 }
+    ensures fit { EachFits program.now block result.now }
+{
+    if block == present {
+        stmts
+    } else {
+        block_at(program, block)
+    }
 }
 
 /// The statement at this place of a block; none at the block's end.
@@ -116,15 +159,5 @@ fn choose(
         Some(then)
     } else {
         other
-    }
-}
-
-/// Whether the block in which the body stands is the body of a loop, and has this number.
-fn repeats(body: &Body, block: u32) -> bool
-    ensures { OnTrue result (slice_get body.now.frames 0 ≡ Some (Frame.Repeats block)) }
-{
-    match body.innermost() {
-        Some(Frame::Repeats { block: again }) => again == block,
-        _ => false,
     }
 }

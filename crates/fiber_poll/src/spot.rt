@@ -12,6 +12,16 @@ pub(crate) struct Spot {
 }
 
 impl Spot {
+    /// That a fiber stands there.
+    pub(crate) fn here(self) -> Standing
+        ensures { result ≡ Standing.At self.block self.place }
+    {
+        Standing::At {
+            block: self.block,
+            place: self.place,
+        }
+    }
+
     /// Where a fiber stands once the statement at this place has ended so.
     pub(crate) fn behind(self, exit: Exit) -> Standing
         requires { self.place + 1 < 2 ^ 32 }

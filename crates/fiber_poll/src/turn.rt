@@ -35,7 +35,7 @@ pub(crate) fn run_on<P: Port<Body = Body>, R: ReadyLine>(
             Standing::Ended => unreachable!("the fiber is live"),
             Standing::Out(exit) => leave(body, exit),
             Standing::At { block, place } => {
-                if let Some(last) = run_block(poller, port, line, body, block, place)? {
+                if let Some(last) = run_from(poller, port, line, body, block, place)? {
                     return Ok(last);
                 }
             }
@@ -43,9 +43,10 @@ pub(crate) fn run_on<P: Port<Body = Body>, R: ReadyLine>(
     }
 }
 
-/// Runs the statements of the block in which the body stands, until it stands elsewhere. Where the
-/// turn's last call is next, it tells which one. The block is looked up once.
-fn run_block<P: Port<Body = Body>, R: ReadyLine>(
+/// Runs statements from this place on up to one that doesn't come to its end at once, and begins that.
+/// Where it is the turn's last call that is next, it tells which one.
+#[inline(always)]
+fn run_from<P: Port<Body = Body>, R: ReadyLine>(
     poller: &ScriptPoller,
     port: &mut P,
     line: &mut R,
@@ -61,41 +62,18 @@ fn run_block<P: Port<Body = Body>, R: ReadyLine>(
     ensures calm { OnOk result (Calm (P.sight port.old) (P.sight port.new)) }
     ensures gave_up { IfErr result (λ fault. Faulted fault (P.sight port.old) (P.sight port.new)) }
 {
-    let stmts = block_at(&poller.program, block);
-    let mut place = place;
-    loop {
-        let Ok(found) = run_silently(body, stmts, block, place) else {
-            return Err(PortFault::Memory);
-        };
-        let Some(left) = found else {
-            return Ok(None);
-        };
-        let Some(stmt) = stmt_at(stmts, left) else {
-            body.stand(Standing::Out(Exit::Next), body.steps());
-            return Ok(None);
-        };
-        let spot = Spot { block, place: left };
-        if let Some(last) = begin(poller, port, line, body, spot, stmt)? {
-            return Ok(Some(last));
-        }
-        match place_in(body, block) {
-            Some(next) => place = next,
-            None => return Ok(None),
-        }
-    }
-}
-
-/// The place at which the body stands in this block, if it stands in it.
-fn place_in(body: &Body, block: u32) -> Option<u32>
-    ensures { (place : ℕ) → result ≡ Some place → body.now.standing ≡ Standing.At block place }
-{
-    match body.standing() {
-        Standing::At {
-            block: present,
-            place,
-        } if present == block => Some(place),
-        _ => None,
-    }
+    let Ok(found) = run_silently(&poller.program, body, block, place) else {
+        return Err(PortFault::Memory);
+    };
+    let Some(spot) = found else {
+        return Ok(None);
+    };
+    let stmts = block_at(&poller.program, spot.block);
+    let Some(stmt) = stmt_at(stmts, spot.place) else {
+        body.stand(Standing::Out(Exit::Next), body.steps());
+        return Ok(None);
+    };
+    begin(poller, port, line, body, spot, stmt)
 }
 
 /// Begins a statement that doesn't come to its end at once, where it has a step.

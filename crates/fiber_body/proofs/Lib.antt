@@ -1,3 +1,6 @@
 pub mod Declared
+pub mod Blocks
 pub mod Newborn
 pub mod Popped
+mod Walking
+mod Walks

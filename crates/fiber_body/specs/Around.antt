@@ -1,46 +1,80 @@
--- What is to come of a text from where its fiber stands: the rest of a block, and then what is around it.
-use Rattle.std.specs.Prelude.{◌≡◌, ℕ, List, [], ◌∷◌, ◌++◌, drop}
+-- Where a fiber stands in its text, and what its log may still have from there on.
+use Rattle.std.specs.Prelude.{◌≡◌, ℕ, List, [], ◌∷◌, ◌++◌, drop, map}
 use Rattle.pic_machine.specs.Happened.{Happened}
-use Rattle.script_tree.specs.declared.program.Stmt.{Stmt}
+use Rattle.fiber_body.specs.declared.standing.Exit.{Exit}
+use Rattle.fiber_body.specs.declared.standing.Exit.TheVariants.{Next}
 use Rattle.fiber_body.specs.declared.standing.Frame.{Frame}
-use Rattle.fiber_body.specs.declared.standing.Frame.TheVariants.{Rest, Again, Catch}
-use Rattle.fiber_body.specs.Meaning.{Context, Exit, next, raised, broke, spent, cut, Loops, Runs, block_at, with_register}
+use Rattle.fiber_body.specs.declared.standing.Frame.TheVariants as frame
+use Rattle.fiber_body.specs.declared.standing.Standing.{Standing}
+use Rattle.fiber_body.specs.declared.standing.Standing.TheVariants as standing
+use Rattle.fiber_body.specs.Context.{Context, Setting, block_at}
+use Rattle.fiber_body.specs.Phases.{Phase, ending, ends}
+use Rattle.fiber_body.specs.Segments.{Acts, Extent, Runs, cut, whole}
+use Rattle.fiber_body.specs.Tables.{Work, catches, closing, ends_text, repeats}
 
--- two segments, one behind the other: the first one ends by an exit, at a context, from which the second
--- one goes on
-pub record Both (First : List Happened → Exit → Context → Type 0) (Second : Exit → Context → List Happened → Type 0) (whole : List Happened) : Type 0 where
+-- at a statement of a block, within one, or where the innermost block has ended so
+pub data Place : Type 0 where
+  at_stmt : ℕ → ℕ → Place
+  within : Phase → Place
+  out : Exit → Place
+
+-- what is around: the rest of a block, from a place on, or the exit of a block, where this is to be done
+pub data Outer : Type 0 where
+  rest : ℕ → ℕ → Outer
+  work : Work → Outer
+
+-- the same of a body: a fiber that has ended is where its last phase was left
+abbrev pub place_of : Standing → Place
+place_of (standing.At block place) = at_stmt block place
+place_of (standing.Out exit) = out exit
+place_of (standing.Ending outcome) = within (ending outcome ends)
+place_of standing.Ended = out Next
+
+abbrev pub outer_of : Frame → Outer
+outer_of (frame.Rest block place) = rest block place
+outer_of (frame.Repeats block) = work (repeats block)
+outer_of (frame.Catches register handler) = work (catches register handler)
+
+-- the end of the text is the outermost thing to do, until the text is left
+abbrev pub around_of : Standing → List Frame → List Outer
+around_of (standing.Ending outcome) frames = []
+around_of standing.Ended frames = []
+around_of _ frames = map outer_of frames ++ work ends_text ∷ []
+
+-- two segments, one behind the other: the first one has an extent and a context, from which the second one
+-- goes on
+pub record Both (First : List Happened → Extent → Context → Type 0) (Second : Extent → Context → List Happened → Type 0) (all : List Happened) : Type 0 where
   pub front : List Happened
   pub back : List Happened
-  pub exit : Exit
+  pub extent : Extent
   pub context : Context
-  pub first : First front exit context
-  pub second : Second exit context back
-  pub is : whole ≡ front ++ back
+  pub first : First front extent context
+  pub second : Second extent context back
+  pub is : all ≡ front ++ back
 
--- once the innermost block has ended so, at this context, what is around it may leave this segment, and
--- the whole text then ends so
-abbrev pub Around : List (List Stmt) → ℕ → List Frame → Exit → Context → List Happened → Exit → Context → Type 0
-Around blocks f [] x c ys y d = (ys ≡ []) × (y ≡ x) × (d ≡ c)
-Around blocks f (Rest block place ∷ frames) next c ys y d =
-    Both (Runs blocks f (drop place (block_at blocks block)) c) (λ x e zs. Around blocks f frames x e zs y d) ys
-Around blocks f (Rest block place ∷ frames) (raised code) c ys y d = Around blocks f frames (raised code) c ys y d
-Around blocks f (Rest block place ∷ frames) broke c ys y d = Around blocks f frames broke c ys y d
-Around blocks f (Rest block place ∷ frames) spent c ys y d = Around blocks f frames spent c ys y d
-Around blocks f (Rest block place ∷ frames) cut c ys y d = Around blocks f frames cut c ys y d
-Around blocks f (Again block ∷ frames) next c ys y d =
-    Both (Loops blocks f (block_at blocks block) c) (λ x e zs. Around blocks f frames x e zs y d) ys
-Around blocks f (Again block ∷ frames) broke c ys y d = Around blocks f frames next c ys y d
-Around blocks f (Again block ∷ frames) (raised code) c ys y d = Around blocks f frames (raised code) c ys y d
-Around blocks f (Again block ∷ frames) spent c ys y d = Around blocks f frames spent c ys y d
-Around blocks f (Again block ∷ frames) cut c ys y d = Around blocks f frames cut c ys y d
-Around blocks f (Catch register handler ∷ frames) (raised code) c ys y d =
-    Both (Runs blocks f (block_at blocks handler) (with_register c register code)) (λ x e zs. Around blocks f frames x e zs y d) ys
-Around blocks f (Catch register handler ∷ frames) next c ys y d = Around blocks f frames next c ys y d
-Around blocks f (Catch register handler ∷ frames) broke c ys y d = Around blocks f frames broke c ys y d
-Around blocks f (Catch register handler ∷ frames) spent c ys y d = Around blocks f frames spent c ys y d
-Around blocks f (Catch register handler ∷ frames) cut c ys y d = Around blocks f frames cut c ys y d
+-- what may come of what is around, once the innermost block has ended or was cut so: the rest of a block
+-- where what was in it goes on, and what is to be done at an exit
+abbrev pub Around : Setting → List Outer → Extent → Context → List Happened → Extent → Context → Type 0
+Around s [] y c ys z d = (ys ≡ []) × (z ≡ y) × (d ≡ c)
+Around s (rest b p ∷ fs) (whole Next) c ys z d = Both (Runs s (drop p (block_at s.script.blocks b)) c) (λ y e zs. Around s fs y e zs z d) ys
+Around s (rest b p ∷ fs) y c ys z d = Around s fs y c ys z d
+Around s (work k ∷ fs) (whole x) c ys z d = Both (Acts s (closing k x c) c) (λ y e zs. Around s fs y e zs z d) ys
+Around s (work k ∷ fs) (cut stop) c ys z d = Around s fs (cut stop) c ys z d
 
--- the same from a place of the innermost block on
-abbrev pub Ahead : List (List Stmt) → ℕ → List Frame → ℕ → ℕ → Context → List Happened → Exit → Context → Type 0
-Ahead blocks f frames block place c ys y d =
-    Both (Runs blocks f (drop place (block_at blocks block)) c) (λ x e zs. Around blocks f frames x e zs y d) ys
+abbrev pub From : Setting → Place → Context → List Happened → Extent → Context → Type 0
+From s (at_stmt b p) c ys y d = Runs s (drop p (block_at s.script.blocks b)) c ys y d
+From s (within p) c ys y d = Acts s p c ys y d
+From s (out x) c ys y d = (ys ≡ []) × (y ≡ whole x) × (d ≡ c)
+
+-- what may come of it all
+abbrev pub Ahead : Setting → Place → List Outer → Context → List Happened → Extent → Context → Type 0
+Ahead s place fs c ys y d = Both (From s place c) (λ z e zs. Around s fs z e zs y d) ys
+
+-- whatever may come of the second place, may come of the first one
+abbrev pub Turns : Setting → Place → List Outer → Context → Place → List Outer → Context → Type 0
+Turns s one fs c two gs e = (tail : List Happened) (y : Extent) (d : Context) → Ahead s two gs e tail y d → Ahead s one fs c tail y d
+
+-- the log leads there: whatever may come from there may come behind the log
+abbrev pub Leads : Setting → Phase → Context → List Happened → Place → List Outer → Context → Type 0
+Leads s begin start log place fs c =
+    (tail : List Happened) (y : Extent) (d : Context) → Ahead s place fs c tail y d → Acts s begin start (log ++ tail) y d

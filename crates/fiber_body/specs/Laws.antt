@@ -1,16 +1,44 @@
 -- What ports rest on: a body's fitting doesn't depend on its room, nor, before the first entry, on its
 -- number, and of the clock's body nothing is asked but its entries.
 use Rattle.std.proofs.Common.{◌≡◌, ℕ, Option, Some, None, List, [], refl, sym, subst, ◌∙◌}
-use Rattle.pic_base.specs.declared.outcome.Outcome.{Outcome}
 use Rattle.pic_machine.specs.declared.entry.Entry.{Entry}
 use Rattle.pic_machine.specs.Happened.{Happened}
-use Rattle.pic_machine.specs.Log.{visible}
+use Rattle.pic_machine.specs.Log.{own, visible}
 use Rattle.pic_machine.specs.Sight.{IsSame}
-use Rattle.fiber_body.specs.declared.standing.Standing.{Standing}
-use Rattle.fiber_body.specs.declared.standing.Standing.TheVariants.{At, Leaving}
-use Rattle.fiber_body.specs.Follows.{FollowsText}
+use Rattle.script_tree.specs.Tree.{Tree}
+use Rattle.fiber_body.specs.declared.standing.Standing.TheVariants.{Ended}
+use Rattle.fiber_body.specs.Follows.{FollowsText, context_of}
+use Rattle.fiber_body.specs.Framing.{leads_segment}
+use Rattle.fiber_body.specs.Around.{around_of, place_of}
+use Rattle.fiber_body.specs.Phases.{lives}
+use Rattle.fiber_body.specs.Segments.{Acts}
 use Rattle.fiber_body.specs.Shown.{IsSameRest, Shown, carry_of}
-use Rattle.fiber_body.specs.Fits.{Fits, HasLeft, Leads, MayBeOf, Stands, before_end, behind_end}
+use Rattle.fiber_body.specs.Texts.{block_in, script_in}
+use Rattle.fiber_body.specs.Fits.{Fits, IsOver, LeadsTo, MayBeOf, setting_of}
+
+-- ---- a body fits where the log leads to it
+
+-- a log whose own part leads somewhere follows its text
+pub led_follows : (body : Shown) (log : List Happened) (script : Tree) (f : ℕ) → body.program ≡ Some script → LeadsTo body f (own log) → FollowsText script f body.birth log
+led_follows body log script f program leads =
+    let start = context_of body.birth in
+    let there = leads_segment (setting_of body f) (lives (block_in body.program body.birth.text)) start (own log) (place_of body.standing) (around_of body.standing body.frames) body.context leads in
+    record {
+      extent = there.extent;
+      context = there.context;
+      acts = subst (λ (p : Option Tree). Acts (record { fiber = f; script = script_in p }) (lives (block_in p body.birth.text)) start (own log) there.extent there.context) program there.acts;
+    }
+
+pub fits_led : (body : Shown) (log : List Happened) → body.noted ≡ visible log → ((f : ℕ) → MayBeOf body.number f → LeadsTo body f (own log))
+    → ((f : ℕ) → MayBeOf body.number f → body.standing ≡ Ended → IsOver f log) → Fits body log
+fits_led body log noted leads over = record {
+  noted = noted;
+  follows = λ script f program mine. led_follows body log script f program (leads f mine);
+  stands = leads;
+  over = over;
+}
+
+-- ---- what a body stands for doesn't depend on what else differs
 
 -- the body with another number, entries and room: it stands where it stood
 abbrev pub moved : Shown → Option ℕ → List Entry → ℕ → Shown
@@ -19,21 +47,7 @@ moved body number noted room = record body { number = number; noted = noted; roo
 -- two bodies with one birth, one share and one rest differ in no more
 same_but : (old new : Shown) → IsSameRest old new → new.birth ≡ old.birth → new.program ≡ old.program
     → new ≡ moved old new.number new.noted new.room
-same_but old new rest birth program = rw (rest.registers, rest.cells, rest.steps, rest.standing, rest.frames, birth, program) refl
-
--- what a body stands for doesn't depend on what else differs
-module _ (body : Shown) (number : Option ℕ) (noted : List Entry) (room : ℕ) (f : ℕ) where
-  left_moved : (log : List Happened) (o : Outcome) → HasLeft body f log o → HasLeft (moved body number noted room) f log o
-  left_moved log o left = record { exit = left.exit; context = left.context; runs = left.runs; ends = left.ends }
-
-  leads_moved : (log : List Happened) (standing : Standing) → Leads body f log standing
-      → Leads (moved body number noted room) f log standing
-  leads_moved log (At block place) leads = leads
-  leads_moved log (Leaving o) left = left_moved log o left
-
-  stands_moved : (log : List Happened) → Stands body f log → Stands (moved body number noted room) f log
-  stands_moved log (before_end leads) = before_end (leads_moved log body.standing leads)
-  stands_moved _ (behind_end {log} o is left) = behind_end o is (left_moved log o left)
+same_but old new rest birth program = rw (rest.context, rest.standing, rest.frames, birth, program) refl
 
 fits_moved : (body : Shown) (number : Option ℕ) (noted : List Entry) (room : ℕ) (log : List Happened)
     → Fits body log → noted ≡ body.noted → ((f : ℕ) → MayBeOf number f → MayBeOf body.number f)
@@ -41,7 +55,8 @@ fits_moved : (body : Shown) (number : Option ℕ) (noted : List Entry) (room : �
 fits_moved body number noted room log fits same may = record {
   noted = same ∙ fits.noted;
   follows = λ script f program mine. fits.follows script f program (may f mine);
-  stands = λ f mine. stands_moved body number noted room f log (fits.stands f (may f mine));
+  stands = λ f mine. fits.stands f (may f mine);
+  over = λ f mine ended. fits.over f (may f mine) ended;
 }
 
 pub fits_same : (old new : Shown) (log : List Happened) → Fits old log → IsSameRest old new
@@ -68,5 +83,6 @@ pub clock_fits : (body : Shown) (log : List Happened) → body.number ≡ Some 0
 clock_fits body log number noted = record {
   noted = noted;
   follows = λ script f program mine. no_fiber (FollowsText script f body.birth log) body.number f number mine;
-  stands = λ f mine. no_fiber (Stands body f log) body.number f number mine;
+  stands = λ f mine. no_fiber (LeadsTo body f (own log)) body.number f number mine;
+  over = λ f mine ended. no_fiber (IsOver f log) body.number f number mine;
 }

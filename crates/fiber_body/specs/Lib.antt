@@ -1,10 +1,15 @@
 pub mod Texts
-pub mod Numbers
-pub mod Meaning
+pub mod Context
+pub mod Phases
+pub mod Statements
+pub mod Tables
+pub mod Segments
 pub mod Follows
 pub mod Shown
 pub mod Around
 pub mod Fits
+pub mod Places
+pub mod Framing
 pub mod New
 pub mod Starts
 pub mod Laws

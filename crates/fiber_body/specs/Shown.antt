@@ -1,25 +1,25 @@
 -- What contracts see of a fiber's body.
 use Rattle.std.specs.Prelude.{◌≡◌, ℕ, ◌<◌, Option, Some, None, List, [], ◌∷◌, ⊤}
+use Rattle.entry_log.specs.Logged.{Logged}
 use Rattle.pic_machine.specs.declared.birth.Birth.{Birth}
 use Rattle.pic_machine.specs.declared.entry.Entry.{Entry}
 use Rattle.pic_machine.specs.Sight.{Carry, nothing}
 use Rattle.script_tree.specs.Tree.{Tree}
+use Rattle.fiber_body.specs.declared.standing.Exit.{Exit}
 use Rattle.fiber_body.specs.declared.standing.Standing.{Standing}
 use Rattle.fiber_body.specs.declared.standing.Frame.{Frame}
-use Rattle.fiber_body.specs.declared.standing.Frame.TheVariants.{Rest, Again, Catch}
-use Rattle.fiber_body.specs.Meaning.{Context}
+use Rattle.fiber_body.specs.declared.standing.Frame.TheVariants as frame
+use Rattle.fiber_body.specs.Context.{Context}
+use Rattle.fiber_body.specs.Statements.{Effect}
 
 -- the program that it shares, which the clock's body has not; what its fiber was made with, and the
--- fiber's number once it has one; its registers, the cells of its storage, and the steps that it has left;
--- where it stands in its text, and what is around that, the innermost first; the entries that were noted,
--- and for how many more there is room
+-- fiber's number once it has one; what its statements read and write; where it stands in its text, and what
+-- is around that, the innermost first; the entries that were noted, and for how many more there is room
 pub record Shown : Type 0 where
   pub program : Option Tree
   pub birth : Birth
   pub number : Option ℕ
-  pub registers : List ℕ
-  pub cells : List ℕ
-  pub steps : ℕ
+  pub context : Context
   pub standing : Standing
   pub frames : List Frame
   pub noted : List Entry
@@ -36,20 +36,18 @@ carry_of body = record {
   share = body.program;
 }
 
--- what its statements read and write
-abbrev pub context_at : Shown → Context
-context_at body = record {
-  registers = body.registers;
-  cells = body.cells;
-  steps = body.steps;
-  current = body.birth.current;
-}
+-- the body where it stands there, with so many steps left
+abbrev pub stood : Shown → Standing → ℕ → Shown
+stood body standing steps = record body { standing = standing; context = record body.context { steps = steps } }
+
+-- the log of a body with this number is that of its fiber; without a number it has no entry
+abbrev pub KeepsLog : Option ℕ → Logged → Type 0
+KeepsLog None log = log.entries ≡ []
+KeepsLog (Some fiber) log = log.fiber ≡ fiber
 
 -- two bodies have the same rest: what their statements read and write, and where they stand
 pub record IsSameRest (old new : Shown) : Type 0 where
-  pub registers : new.registers ≡ old.registers
-  pub cells : new.cells ≡ old.cells
-  pub steps : new.steps ≡ old.steps
+  pub context : new.context ≡ old.context
   pub standing : new.standing ≡ old.standing
   pub frames : new.frames ≡ old.frames
 
@@ -60,6 +58,12 @@ IsPopped old new (Some frame) = (outer : List Frame) × (old.frames ≡ frame �
 
 -- the register that a frame names is one
 abbrev pub IsFrame : Frame → Type 0
-IsFrame (Rest block place) = ⊤
-IsFrame (Again block) = ⊤
-IsFrame (Catch register handler) = register < 16
+IsFrame (frame.Catches register handler) = register < 16
+IsFrame _ = ⊤
+
+-- the registers and cells are as a statement leaves them that changes these alone, and the answer says how
+-- it ends; of another statement nothing is changed
+abbrev pub IsChanged : Option Effect → Shown → Shown → Option Exit → Type 0
+IsChanged None old new answer = (answer ≡ None) × (new ≡ old)
+IsChanged (Some effect) old new answer =
+    (answer ≡ Some effect.exit) × (new ≡ record old { context = record old.context { registers = effect.registers; cells = effect.cells } })

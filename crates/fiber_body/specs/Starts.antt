@@ -1,6 +1,7 @@
 -- What stands before the first entry of a script's runs.
 use Rattle.std.specs.Prelude.{◌+◌, length}
 use Rattle.pic_base.specs.declared.limits.Limits.{Limits}
+use Rattle.pic_machine.specs.declared.birth.Birth.{Birth}
 use Rattle.pic_machine.specs.declared.world.Start.{Start}
 use Rattle.script_tree.specs.Tree.{Tree}
 use Rattle.fiber_body.specs.Texts.{main_text}
@@ -9,3 +10,7 @@ use Rattle.fiber_body.specs.Texts.{main_text}
 -- main text
 abbrev pub start_of : Tree → Limits → Start
 start_of script limits = record { comps = length script.decls + 1; text = main_text script; limits = limits }
+
+-- main runs the main text and is handed 0, and its current computation is the root
+abbrev pub main_birth : Tree → Birth
+main_birth script = record { text = main_text script; value = 0; current = 0 }

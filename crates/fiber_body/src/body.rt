@@ -1,15 +1,18 @@
-ghost use Rattle.std.specs.Prelude.{◌≡◌, ◌<◌, ◌-◌, ◌∷◌, Some, None, IfOk, IfSome, OnOk, OnErr, length, slice_get, slice_index, slice_set, vec_len, vec_capacity};
+ghost use Rattle.std.specs.Prelude.{◌≡◌, ◌<◌, ◌-◌, ◌∷◌, Some, None, IfOk, IfSome, OnOk, OnErr, length, slice_get, slice_index};
 ghost use Rattle.std.specs.Option.{option_map};
 ghost use Rattle.std.specs.Arc.{arc_value};
+ghost use Rattle.script_tree.specs.WellFormed.{IsValue};
+ghost use Rattle.fiber_body.specs.Context.{value, with_register};
 ghost use Rattle.fiber_body.specs.New.{IsNew};
-ghost use Rattle.fiber_body.specs.Shown.{IsFrame, IsPopped};
+ghost use Rattle.fiber_body.specs.Shown.{IsFrame, IsPopped, stood};
 ghost use Rattle.fiber_body.specs.Texts.{block_in};
 
 use crate::standing::{Frame, Standing};
 use crate::texts::block_of;
+use entry_log::FiberLog;
 use pic_base::{CompNo, FiberNo, Memory, STEPS, Value};
-use pic_machine::{Birth, Entry};
-use script_tree::Program;
+use pic_machine::Birth;
+use script_tree::{Operand, Program};
 use std::alloc::Global;
 use std::marker::Model;
 use std::sync::Arc;
@@ -27,16 +30,16 @@ pub(crate) struct Content {
     program: Option<Arc<Program>>,
     pub(crate) birth: Birth,
     pub(crate) number: Option<FiberNo>,
-    registers: [Value; 16],
-    cells: [Value; 16],
+    pub(crate) registers: [Value; 16],
+    pub(crate) cells: [Value; 16],
     steps: u32,
     standing: Standing,
     frames: Vec<Frame>,
-    pub(crate) noted: Vec<Entry>,
+    pub(crate) noted: FiberLog,
 }
 
 impl Model for Body {
-    ghost use Rattle.std.specs.Prelude.{◌-◌, reverse, vec_len, vec_capacity};
+    ghost use Rattle.std.specs.Prelude.{reverse};
     ghost use Rattle.fiber_body.specs.Shown.{Shown};
     ghost use Rattle.std.specs.Option.{option_map};
     ghost use Rattle.std.specs.Arc.{arc_value};
@@ -47,19 +50,23 @@ impl Model for Body {
       program = option_map arc_value body.content.value.program;
       birth = body.content.value.birth;
       number = body.content.value.number;
-      registers = body.content.value.registers;
-      cells = body.content.value.cells;
-      steps = body.content.value.steps;
+      context = record {
+        registers = body.content.value.registers;
+        cells = body.content.value.cells;
+        steps = body.content.value.steps;
+        current = body.content.value.birth.current;
+      };
       standing = body.content.value.standing;
       frames = reverse body.content.value.frames.items;
-      noted = body.content.value.noted.items;
-      room = vec_capacity body.content.value.noted - vec_len body.content.value.noted;
+      noted = body.content.value.noted.entries;
+      room = body.content.value.noted.room;
     } };
 
     ghost use Rattle.std.specs.List.{AllByRecursion};
-    ghost use Rattle.fiber_body.specs.Shown.{IsFrame};
+    ghost use Rattle.fiber_body.specs.Shown.{IsFrame, KeepsLog};
 
-    ghost invariant = { λ body. AllByRecursion IsFrame body.content.value.frames.items };
+    ghost invariant = { λ body. AllByRecursion IsFrame body.content.value.frames.items
+        × KeepsLog body.content.value.number body.content.value.noted };
 }
 
 impl Body {
@@ -74,7 +81,7 @@ impl Body {
     ) -> Result<Body, Memory>
         requires { text < length (arc_value program.now).texts }
         ensures { IfOk result (λ body. IsNew body (Some (arc_value program.now))
-            (record { text = text; value = value; current = current })) }
+            (record { text = text; value = value; current = current }) None) }
     {
         let block = block_of(program, text);
         let program = Some(program.clone()?);
@@ -83,42 +90,44 @@ impl Body {
             value,
             current,
         };
-        Body::unused(alloc, program, birth, block)
+        Body::unused(alloc, program, birth, None, block)
     }
 
-    /// The body of the clock, which runs no text. It has no number yet.
+    /// The body of the clock, which runs no text. Its number is 0.
     pub fn clock(alloc: Global) -> Result<Body, Memory>
-        ensures { IfOk result (λ body. IsNew body None (record { text = 0; value = 0; current = 0 })) }
+        ensures { IfOk result (λ body. IsNew body None
+            (record { text = 0; value = 0; current = 0 }) (Some 0)) }
     {
         let birth = Birth {
             text: 0,
             value: 0,
             current: 0,
         };
-        Body::unused(alloc, None, birth, 0)
+        Body::unused(alloc, None, birth, Some(0), 0)
     }
 
     fn unused(
         alloc: Global,
         program: Option<Arc<Program>>,
         birth: Birth,
+        number: Option<FiberNo>,
         block: u32,
     ) -> Result<Body, Memory>
         requires { block ≡ block_in (option_map arc_value program) birth.text }
-        ensures { IfOk result (λ body. IsNew body (option_map arc_value program) birth) }
+        ensures { IfOk result (λ body. IsNew body (option_map arc_value program) birth number) }
     {
         let mut registers = [0; 16];
         registers[0] = birth.value;
         let content = Content {
             program,
             birth,
-            number: None,
+            number,
             registers,
             cells: [0; 16],
             steps: STEPS,
             standing: Standing::At { block, place: 0 },
             frames: Vec::new(alloc),
-            noted: Vec::new(alloc),
+            noted: FiberLog::new(alloc, number.unwrap_or(0)),
         };
         Ok(Body {
             content: Box::new(alloc, content)?,
@@ -132,24 +141,26 @@ impl Body {
         self.content.birth.text
     }
 
-    /// The current computation.
+    /// The current computation, which is still the one with which its fiber was made.
     pub fn current(&self) -> CompNo
-        ensures { result ≡ self.now.birth.current }
+        ensures current { result ≡ self.now.context.current }
+        ensures of_birth { result ≡ self.now.birth.current }
     {
         self.content.birth.current
     }
 
     /// The visible entries of its fiber so far.
-    pub fn entries(&self) -> &[Entry]
-        ensures { result.now ≡ self.now.noted }
+    pub fn entries(&self) -> &FiberLog
+        ensures entries { result.now.entries ≡ self.now.noted }
+        ensures fiber { IfSome self.now.number (λ fiber. result.now.fiber ≡ fiber) }
     {
-        self.content.noted.as_slice()
+        &self.content.noted
     }
 
     /// The value of the register with this number.
     pub fn register(&self, place: u8) -> Value
         requires { place < 16 }
-        ensures { result ≡ slice_index self.now.registers place }
+        ensures { result ≡ slice_index self.now.context.registers place }
     {
         self.content.registers[place as usize]
     }
@@ -157,39 +168,27 @@ impl Body {
     /// Puts the value into the register with this number.
     pub fn set_register(&mut self, place: u8, value: Value)
         requires { place < 16 }
-        ensures { self.new ≡ record self.old { registers = slice_set self.old.registers place value } }
+        ensures { self.new ≡ record self.old { context = with_register self.old.context place value } }
     {
         self.content.registers[place as usize] = value;
     }
 
-    /// The value under the key with this number.
-    pub fn cell(&self, place: u8) -> Value
-        requires { place < 16 }
-        ensures { result ≡ slice_index self.now.cells place }
+    /// The value of an operand.
+    pub fn value(&self, operand: Operand) -> Value
+        requires { IsValue operand }
+        ensures { result ≡ value self.now.context operand }
     {
-        self.content.cells[place as usize]
-    }
-
-    /// Puts the value under the key with this number.
-    pub fn set_cell(&mut self, place: u8, value: Value)
-        requires { place < 16 }
-        ensures { self.new ≡ record self.old { cells = slice_set self.old.cells place value } }
-    {
-        self.content.cells[place as usize] = value;
+        match operand {
+            Operand::Reg(register) => self.register(register),
+            Operand::Num(value) => value,
+        }
     }
 
     /// How many steps it has left.
     pub fn steps(&self) -> u32
-        ensures { result ≡ self.now.steps }
+        ensures { result ≡ self.now.context.steps }
     {
         self.content.steps
-    }
-
-    /// Leaves it so many steps.
-    pub fn set_steps(&mut self, steps: u32)
-        ensures { self.new ≡ record self.old { steps = steps } }
-    {
-        self.content.steps = steps;
     }
 
     /// Where it stands in its text.
@@ -199,11 +198,12 @@ impl Body {
         self.content.standing
     }
 
-    /// Lets it stand there from now on.
-    pub fn set_standing(&mut self, standing: Standing)
-        ensures { self.new ≡ record self.old { standing = standing } }
+    /// Lets it stand there from now on, with so many steps left.
+    pub fn stand(&mut self, standing: Standing, steps: u32)
+        ensures { self.new ≡ stood self.old standing steps }
     {
         self.content.standing = standing;
+        self.content.steps = steps;
     }
 
     /// Puts a frame around the block in which it is to stand.

@@ -6,7 +6,7 @@ ghost use Rattle.fiber_body.specs.Laws.{clock_fits, fits_fresh, fits_same};
 
 use crate::body::Body;
 use pic_base::{FiberNo, Memory};
-use pic_machine::{Birth, Carried, Entry};
+use pic_machine::{Birth, Call, Carried, Reply};
 use script_tree::Program;
 
 impl Carried for Body {
@@ -31,15 +31,17 @@ impl Carried for Body {
 
     fn number(&mut self, fiber: FiberNo) {
         self.content.number = Some(fiber);
+        self.content.noted.set_fiber(fiber);
     }
 
+    #[inline(always)]
     fn reserve(&mut self) -> Result<(), Memory> {
-        self.content.noted.reserve(1)?;
-        Ok(())
+        self.content.noted.reserve()
     }
 
-    fn note(&mut self, entry: Entry) {
-        self.content.noted.push_reserved(entry);
+    #[inline(always)]
+    fn note(&mut self, call: Call, reply: Reply) {
+        self.content.noted.note(call, reply);
     }
 
     ghost shows = { λ body log fits. fits.noted };
@@ -51,17 +53,13 @@ impl Carried for Body {
     ghost fits_fresh = { fits_fresh };
 
     ghost rest_same = { λ body. record {
-      registers = refl;
-      cells = refl;
-      steps = refl;
+      context = refl;
       standing = refl;
       frames = refl;
     } };
 
     ghost rest_after = { λ a b c one other. record {
-      registers = other.registers ∙ one.registers;
-      cells = other.cells ∙ one.cells;
-      steps = other.steps ∙ one.steps;
+      context = other.context ∙ one.context;
       standing = other.standing ∙ one.standing;
       frames = other.frames ∙ one.frames;
     } };

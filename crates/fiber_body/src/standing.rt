@@ -1,21 +1,39 @@
-use pic_base::Outcome;
+use pic_base::{Outcome, Value};
+
+/// How statements end.
+#[derive(Clone, Copy, Debug, PartialEq, Eq)]
+pub enum Exit {
+    /// What follows goes on.
+    Next,
+    /// This code was raised.
+    Raised(Value),
+    /// The innermost loop is to end.
+    Broke,
+    /// No step is left for what was to begin.
+    Spent,
+}
 
 /// Where a fiber stands in its text.
 #[derive(Clone, Copy, Debug, PartialEq, Eq)]
 pub enum Standing {
     /// In the block with this number, before the statement with this place, or at the block's end.
-    At { block: u32, place: usize },
+    At { block: u32, place: u32 },
+    /// Where the innermost block has ended so.
+    Out(Exit),
     /// It has left its text, and is to end with this outcome.
-    Leaving(Outcome),
+    Ending(Outcome),
+    /// It has ended.
+    Ended,
 }
 
-/// What is around the block in which a fiber stands: what its text goes on with once that block is left.
+/// What is around the place where a fiber stands, within its text.
 #[derive(Clone, Copy, Debug, PartialEq, Eq)]
 pub enum Frame {
     /// The block with this number, from this place on.
-    Rest { block: u32, place: usize },
-    /// The block with this number again (the body of a `loop`).
-    Again { block: u32 },
-    /// Where a code is raised, the register gets it and the block with this number runs (a `try`).
-    Catch { register: u8, handler: u32 },
+    Rest { block: u32, place: u32 },
+    /// The exit of the block with this number, which is the body of a `loop` and runs again.
+    Repeats { block: u32 },
+    /// The exit of the block of a `try`: where a code is raised, the register gets it and the block
+    /// `handler` runs.
+    Catches { register: u8, handler: u32 },
 }

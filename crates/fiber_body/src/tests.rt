@@ -1,8 +1,10 @@
 //! Bodies of a script's fibers.
+ghost use Rattle.std.specs.Prelude.{◌≤◌, length};
+
 use super::*;
-use pic_base::{Limits, Outcome, STEPS};
+use pic_base::{Limits, Outcome, Value};
 use pic_machine::{Birth, Call, Carried, Entry, Reply};
-use script_tree::{CompRef, parse};
+use script_tree::{CompRef, Operand, Program, parse};
 use std::sync::Arc;
 use std::test::Fail;
 
@@ -11,9 +13,7 @@ const SCRIPT: &str =
 
 #[test]
 fn a_body_begins_at_its_texts_first_statement(rt: HostRuntime) -> Result<(), Fail> {
-    let Ok(program) = parse(rt.alloc(), SCRIPT.as_bytes()) else {
-        return Err("the script is none".into());
-    };
+    let program = parse(rt.alloc(), SCRIPT.as_bytes())?;
     assert_eq!(rt; block_at(&program, 0).len(), 1);
     assert_eq!(rt; block_at(&program, 1).len(), 3);
     assert_eq!(rt; block_at(&program, 2).len(), 0);
@@ -36,9 +36,9 @@ fn a_body_begins_at_its_texts_first_statement(rt: HostRuntime) -> Result<(), Fai
     assert_eq!(rt; body.current(), 1);
     assert_eq!(rt; body.register(0), 5);
     assert_eq!(rt; body.register(15), 0);
-    assert_eq!(rt; body.steps(), STEPS);
-    assert_eq!(rt; body.cell(15), 0);
+    assert_eq!(rt; body.steps(), 200_000);
     assert_eq!(rt; body.standing(), Standing::At { block: 0, place: 0 });
+    assert_eq!(rt; body.innermost(), None);
     assert_eq!(rt; body.entries().len(), 0);
     Ok(())
 }
@@ -46,26 +46,26 @@ fn a_body_begins_at_its_texts_first_statement(rt: HostRuntime) -> Result<(), Fai
 #[test]
 fn a_body_keeps_what_it_is_told(rt: HostRuntime) -> Result<(), Fail> {
     let mut body = Body::clock(rt.alloc())?;
-    body.number(0);
     body.reserve()?;
-    let entry = Entry {
-        fiber: 0,
-        call: Call::Say(7),
-        reply: Reply::Plain,
-    };
-    body.note(entry);
+    body.note(Call::Say(7), Reply::Plain);
     body.set_register(3, 9);
-    body.set_cell(3, 6);
-    body.set_steps(8);
-    body.set_standing(Standing::Leaving(Outcome::Cancelled(3)));
+    body.stand(Standing::Ending(Outcome::Cancelled(3)), 8);
     assert_eq!(rt; body.fiber(), 0);
-    assert_eq!(rt; body.entries()[0], entry);
+    assert_eq!(rt;
+        body.entries().last(),
+        Some(Entry {
+            fiber: 0,
+            call: Call::Say(7),
+            reply: Reply::Plain,
+        })
+    );
     assert_eq!(rt; body.register(3), 9);
     assert_eq!(rt; body.register(0), 0);
-    assert_eq!(rt; body.cell(3), 6);
-    assert_eq!(rt; body.cell(2), 0);
+    assert_eq!(rt; body.value(Operand::Reg(3)), 9);
+    assert_eq!(rt; body.value(Operand::Num(3)), 3);
     assert_eq!(rt; body.steps(), 8);
-    assert_eq!(rt; body.standing(), Standing::Leaving(Outcome::Cancelled(3)));
+    assert_eq!(rt; body.standing(), Standing::Ending(Outcome::Cancelled(3)));
+    assert_eq!(rt; body.into_entries().len(), 1);
     Ok(())
 }
 
@@ -74,44 +74,121 @@ fn the_innermost_frame_is_taken_away_first(rt: HostRuntime) -> Result<(), Fail> 
     let mut body = Body::clock(rt.alloc())?;
     assert_eq!(rt; body.pop_frame(), None);
     let rest = Frame::Rest { block: 0, place: 3 };
-    let catch = Frame::Catch {
+    let catches = Frame::Catches {
         register: 2,
         handler: 5,
     };
     body.push_frame(rest)?;
-    body.push_frame(catch)?;
-    assert_eq!(rt; body.pop_frame(), Some(catch));
-    body.push_frame(Frame::Again { block: 1 })?;
-    assert_eq!(rt; body.pop_frame(), Some(Frame::Again { block: 1 }));
+    body.push_frame(catches)?;
+    assert_eq!(rt; body.innermost(), Some(catches));
+    assert_eq!(rt; body.pop_frame(), Some(catches));
+    body.push_frame(Frame::Repeats { block: 1 })?;
+    assert_eq!(rt; body.pop_frame(), Some(Frame::Repeats { block: 1 }));
     assert_eq!(rt; body.pop_frame(), Some(rest));
     assert_eq!(rt; body.pop_frame(), None);
     Ok(())
 }
 
+/// What the statement at this place of the block makes of the body.
+fn changed(
+    program: &Program,
+    block: u32,
+    place: usize,
+    body: &mut Body,
+) -> Result<Option<Exit>, Fail> {
+    match block_at(program, block).get(place) {
+        Some(stmt) => Ok(body.change(stmt)),
+        None => Err("no such statement".into()),
+    }
+}
+
+/// Each statement that changes registers and storage alone, or only leaves its block, below and beyond
+/// its bounds, and each other one.
+const CHANGES: &str = "picos 1\ncomp c\nfiber f\nend\nmain\n\
+    set r1 7\nadd r1 5\nsub r1 2\nmul r1 3\nput 15 r1\nset r1 4294967294\nget r2 15\nget r2 14\nget r2 15\n\
+    add r1 1\nadd r1 r2\nmul r1 2\nmul r1 1\nsub r2 31\nsub r2 30\nraise r1\nraise 9\n\
+    say 1\nyield\ncheck\nreturn r1 c 3\ncancel r1 c 3\npeek r1 r2 c\nspawn f 3\n\
+    if r2 eq 0\nset r1 0\nend\nloop\nbreak\nend\ntry\nset r1 0\ncatch r1\nend\nend\n";
+
 #[test]
-fn things_are_numbered_in_their_order(rt: HostRuntime) -> Result<(), Fail> {
-    let Ok(program) = parse(rt.alloc(), SCRIPT.as_bytes()) else {
-        return Err("the script is none".into());
+fn statements_change_registers_and_storage(rt: HostRuntime) -> Result<(), Fail> {
+    let program = parse(rt.alloc(), CHANGES.as_bytes())?;
+    let mut body = Body::clock(rt.alloc())?;
+    let next = Some(Exit::Next);
+    let overflow = Some(Exit::Raised(2));
+    // how each statement of main ends, and the registers r1 and r2 behind it
+    let table: [(Option<Exit>, Value, Value); 27] = [
+        (next, 7, 0),
+        (next, 12, 0),
+        (next, 10, 0),
+        (next, 30, 0),
+        (next, 30, 0),
+        (next, 4_294_967_294, 0),
+        (next, 4_294_967_294, 30),
+        (next, 4_294_967_294, 0),
+        (next, 4_294_967_294, 30),
+        (next, 4_294_967_295, 30),
+        (overflow, 4_294_967_295, 30),
+        (overflow, 4_294_967_295, 30),
+        (next, 4_294_967_295, 30),
+        (overflow, 4_294_967_295, 30),
+        (next, 4_294_967_295, 0),
+        (Some(Exit::Raised(4_294_967_295)), 4_294_967_295, 0),
+        (Some(Exit::Raised(9)), 4_294_967_295, 0),
+        (None, 4_294_967_295, 0),
+        (None, 4_294_967_295, 0),
+        (None, 4_294_967_295, 0),
+        (None, 4_294_967_295, 0),
+        (None, 4_294_967_295, 0),
+        (None, 4_294_967_295, 0),
+        (None, 4_294_967_295, 0),
+        (None, 4_294_967_295, 0),
+        (None, 4_294_967_295, 0),
+        (None, 4_294_967_295, 0),
+    ];
+    for (place, wanted) in table.into_iter().enumerate() {
+        let exit = changed(&program, 1, place, &mut body)?;
+        assert_eq!(rt;
+            (exit, body.register(1), body.register(2)),
+            wanted,
+            "at {place}"
+        );
+    }
+    // a break stands in the block of a loop, the second of the inner ones
+    assert_eq!(rt; changed(&program, 3, 0, &mut body)?, Some(Exit::Broke));
+    assert_eq!(rt; body.steps(), 200_000);
+    assert_eq!(rt; body.standing(), Standing::At { block: 0, place: 0 });
+    assert_eq!(rt; body.entries().len(), 0);
+    Ok(())
+}
+
+#[test]
+fn a_start_has_the_root_and_main(rt: HostRuntime) -> Result<(), Fail> {
+    let program = parse(rt.alloc(), SCRIPT.as_bytes())?;
+    let limits = Limits {
+        fibers: 4,
+        comps: 9,
     };
-    let start = start_of(
-        &program,
-        Limits {
-            fibers: 4,
-            comps: 9,
-        },
-    );
+    let start = start_of(&program, limits);
     assert_eq!(rt; start.comps, 3);
     assert_eq!(rt; start.text, 1);
-    assert_eq!(rt;
-        start.limits,
-        Limits {
-            fibers: 4,
-            comps: 9
-        }
-    );
-    assert_eq!(rt; number_of(&program, CompRef::Root), Some(0));
-    assert_eq!(rt; number_of(&program, CompRef::Named(1)), Some(2));
-    assert_eq!(rt; number_of(&program, CompRef::Named(2)), None);
-    assert_eq!(rt; number_of(&program, CompRef::Promise(0)), None);
+    assert_eq!(rt; start.limits, limits);
+    Ok(())
+}
+
+#[test]
+fn computations_are_numbered_in_their_order(rt: HostRuntime) -> Result<(), Fail> {
+    let text = b"picos 1\ntrigger t\ncomp x\nmutex m\nsem s 3\ncomp y\ncomp z\nmain\nend\n";
+    let program = parse(rt.alloc(), text)?;
+    let numbers = Numbers::of(rt.alloc(), &program)?;
+    assert_eq!(rt; numbers.comp(CompRef::Root), Some(0));
+    assert_eq!(rt; numbers.comp(CompRef::Named(1)), Some(1));
+    assert_eq!(rt; numbers.comp(CompRef::Named(4)), Some(2));
+    assert_eq!(rt; numbers.comp(CompRef::Named(5)), Some(3));
+    assert_eq!(rt; numbers.comp(CompRef::Named(6)), None);
+    assert_eq!(rt; numbers.comp(CompRef::Promise(0)), None);
+    let none = Numbers::of(rt.alloc(), &parse(rt.alloc(), b"picos 1\nmain\nend\n")?)?;
+    assert_eq!(rt; none.comp(CompRef::Root), Some(0));
+    assert_eq!(rt; none.comp(CompRef::Named(0)), None);
     Ok(())
 }

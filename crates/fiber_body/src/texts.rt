@@ -1,7 +1,7 @@
 //! The texts of a program.
 ghost use Rattle.std.specs.Prelude.{◌≡◌, ◌<◌, ◌≤◌, length};
-ghost use Rattle.fiber_body.specs.Meaning.{block_at};
-ghost use Rattle.fiber_body.specs.Texts.{block_of, main_text};
+ghost use Rattle.fiber_body.specs.Context.{block_at};
+ghost use Rattle.fiber_body.specs.Texts.{EachFits, block_of, main_text};
 
 use script_tree::{Program, Stmt};
 
@@ -24,7 +24,10 @@ pub(crate) fn block_of(program: &Program, text: u32) -> u32
 
 /// The statements of a block; none where the program has no such block.
 pub fn block_at(program: &Program, block: u32) -> &[Stmt]
-    ensures { result.now ≡ block_at program.now.blocks block }
+    ensures is { result.now ≡ block_at program.now.blocks block }
+    // No program has more statements than that.
+    ensures few { length result.now ≤ 10000 }
+    ensures fit { EachFits program.now block result.now }
 {
     match program.blocks.get(block as usize) {
         Some(block) => block.stmts.as_slice(),

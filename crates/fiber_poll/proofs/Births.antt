@@ -2,62 +2,44 @@
 use Rattle.std.proofs.Common.{◌≡◌, ℕ, ◌<◌, ◌==◌, cond, Bool, true, false, Option, Some, None, List, [], ◌∷◌, ◌++◌, length, refl, sym, subst, append_assoc}
 use Rattle.pic_machine.specs.declared.birth.Birth.{Birth}
 use Rattle.pic_machine.specs.declared.entry.Call.{Call}
-use Rattle.pic_machine.specs.declared.entry.Call.TheVariants.{Turn, Yield, Complete, Peek, Fork, Say, End}
+use Rattle.pic_machine.specs.declared.entry.Call.TheVariants.{Fork}
 use Rattle.pic_machine.specs.declared.entry.Reply.{Reply}
-use Rattle.pic_machine.specs.declared.entry.Reply.TheVariants.{Plain, Full, Made, Completed, Peeked}
+use Rattle.pic_machine.specs.declared.entry.Reply.TheVariants.{Made}
 use Rattle.pic_machine.specs.Happened.{Happened}
 use Rattle.pic_machine.specs.State.{State}
 use Rattle.pic_machine.specs.History.{BirthFits, IsLegal, Origin, birth_among, birth_at, birth_in, made_birth, or_later, world}
 use Rattle.pic_machine.proofs.Comps.{comps_stay}
 
--- the birth that stands beside an entry
-birth_beside : (w : State) (call : Call) (g : ℕ) (birth : Birth) → BirthFits w call (Made g) (Some birth) → birth.current < length w.comps
-birth_beside w Turn g birth fits = absurd cc
-birth_beside w Yield g birth fits = absurd cc
-birth_beside w (Complete c o) g birth fits = absurd cc
-birth_beside w (Peek c) g birth fits = absurd cc
-birth_beside w (Fork text value) g birth fits =
-    let is : Some birth ≡ Some fits.of_child = fits.is in
-    let same : birth ≡ fits.of_child = cc in
-    subst (λ (b : Birth). b.current < length w.comps) (sym same) fits.stands
-birth_beside w (Say v) g birth fits = absurd cc
-birth_beside w (End o) g birth fits = absurd cc
+-- the current computation of such a birth, where there is one, is one of so many
+abbrev Stands : ℕ → Option Birth → Type 0
+Stands n None = Unit {0}
+Stands n (Some birth) = birth.current < n
 
-chosen : (b : Bool) (birth child : Birth) → cond b (Some birth) None ≡ Some child → birth ≡ child
-chosen true birth child is = cc
-chosen false birth child is = absurd cc
+chosen_stands : (n : ℕ) (b : Bool) (one other : Option Birth) → Stands n one → Stands n other → Stands n (cond b one other)
+chosen_stands n true one other here there = here
+chosen_stands n false one other here there = there
 
-birth_stands : (w : State) (call : Call) (reply : Reply) (birth : Option Birth) (f : ℕ) (child : Birth) → BirthFits w call reply birth → made_birth reply birth f ≡ Some child → child.current < length w.comps
-birth_stands w call Plain birth f child fits is = absurd cc
-birth_stands w call Full birth f child fits is = absurd cc
-birth_stands w call (Made g) None f child fits is = absurd cc
-birth_stands w call (Made g) (Some birth) f child fits is =
-    subst (λ (b : Birth). b.current < length w.comps) (chosen (g == f) birth child is) (birth_beside w call g birth fits)
-birth_stands w call (Completed how) birth f child fits is = absurd cc
-birth_stands w call (Peeked seen) birth f child fits is = absurd cc
+later_stands : (n : ℕ) (first later : Option Birth) → Stands n first → Stands n later → Stands n (or_later first later)
+later_stands n None later here there = there
+later_stands n (Some birth) later here there = here
 
-module _ (origin : Origin) (f : ℕ) (child : Birth) where
-  abbrev IsWithin : Type 0
-  IsWithin = child.current < length origin.world.comps
+made_stands : (w : State) (call : Call) (g : ℕ) (birth : Birth) → BirthFits w call (Made g) (Some birth) → birth.current < length w.comps
+made_stands w (Fork text value) g birth fits = subst (Stands (length w.comps)) (sym fits.is) fits.stands
+made_stands w _ g birth fits = absurd cc
 
-  first_or_later : (first later : Option Birth) → (first ≡ Some child → IsWithin) → (later ≡ Some child → IsWithin) → or_later first later ≡ Some child → IsWithin
-  first_or_later None later one two is = two is
-  first_or_later (Some b) later one two is = one is
+beside_stands : (w : State) (call : Call) (reply : Reply) (birth : Option Birth) (f : ℕ) → BirthFits w call reply birth → Stands (length w.comps) (made_birth reply birth f)
+beside_stands w call (Made g) (Some birth) f fits = chosen_stands (length w.comps) (g == f) (Some birth) None (made_stands w call g birth fits) tt
+beside_stands w call _ _ f fits = tt
 
-  born_from : (front back : List Happened) → IsLegal origin (front ++ back) → birth_among back f ≡ Some child → IsWithin
-  born_from front [] legal is = absurd cc
-  born_from front (h ∷ back) legal is =
-      first_or_later (birth_at h f) (birth_among back f)
-      (λ here. subst (λ (n : ℕ). child.current < n) (comps_stay origin front)
-      (birth_stands (world origin front) h.entry.call h.entry.reply h.birth f child (legal.each front back h refl).birth here))
-      (born_from (front ++ h ∷ []) back (subst (IsLegal origin) (sym (append_assoc front (h ∷ []) back)) legal))
-      is
+among_stands : (origin : Origin) (f : ℕ) (front back : List Happened) → IsLegal origin (front ++ back) → Stands (length origin.world.comps) (birth_among back f)
+among_stands origin f front [] legal = tt
+among_stands origin f front (h ∷ back) legal =
+    later_stands (length origin.world.comps) (birth_at h f) (birth_among back f)
+    (subst (λ (n : ℕ). Stands n (birth_at h f)) (comps_stay origin front) (beside_stands (world origin front) h.entry.call h.entry.reply h.birth f (legal.each front back h refl).birth))
+    (among_stands origin f (front ++ h ∷ []) back (subst (IsLegal origin) (sym (append_assoc front (h ∷ []) back)) legal))
 
-  main_or_made : (b : Bool) (hs : List Happened) → IsLegal origin hs → origin.main.current < length origin.world.comps → cond b (Some origin.main) (birth_among hs f) ≡ Some child → IsWithin
-  main_or_made true hs legal main is =
-      let same : origin.main ≡ child = cc in
-      subst (λ (b : Birth). b.current < length origin.world.comps) same main
-  main_or_made false hs legal main is = born_from [] hs legal is
-
-  pub current_stands : (hs : List Happened) → IsLegal origin hs → origin.main.current < length origin.world.comps → birth_in origin hs f ≡ Some child → child.current < length (world origin hs).comps
-  current_stands hs legal main is = subst (λ (n : ℕ). child.current < n) (sym (comps_stay origin hs)) (main_or_made (f == 1) hs legal main is)
+pub current_stands : (origin : Origin) (hs : List Happened) (f : ℕ) (birth : Birth) → IsLegal origin hs → origin.main.current < length origin.world.comps → birth_in origin hs f ≡ Some birth → birth.current < length (world origin hs).comps
+current_stands origin hs f birth legal main is =
+    let n = length origin.world.comps in
+    subst (λ (k : ℕ). birth.current < k) (sym (comps_stay origin hs))
+    (subst (Stands n) is (chosen_stands n (f == 1) (Some origin.main) (birth_among hs f) main (among_stands origin f [] hs legal)))

@@ -1,8 +1,6 @@
 pub mod Built
 pub mod Polls
 pub mod Laws
-pub mod Few
-pub mod Ranges
+pub mod Yields
 pub mod Moving
-pub mod Changing
 pub mod UnderWay

@@ -1,57 +1,147 @@
 -- How a body moves between two entries of its fiber. Only private contracts cite these words.
-use Rattle.std.specs.Prelude.{◌≡◌, ℕ, ◌+◌, ◌*◌, ◌-◌, ◌<◌, ◌≤◌, List, [], ◌∷◌, ◌++◌, length, ⊤}
-use Rattle.pic_machine.specs.Happened.{Happened}
+use Rattle.std.specs.Prelude.{◌≡◌, ◌≢◌, ℕ, ◌+◌, ◌*◌, ◌-◌, ◌<◌, ◌^◌, nat_lt, cond, Bool, true, false, Option, Some, None, List, [], ◌∷◌, ◌++◌, length, slice_get, ⊤}
+use Rattle.script_tree.specs.declared.program.Operand.{Operand}
+use Rattle.script_tree.specs.declared.program.Stmt.{Stmt}
+use Rattle.script_tree.specs.declared.program.Stmt.TheVariants as stmt
+use Rattle.script_tree.specs.declared.program.Test.{Test}
+use Rattle.script_tree.specs.Tree.{Tree}
+use Rattle.fiber_body.specs.declared.standing.Exit.{Exit}
+use Rattle.fiber_body.specs.declared.standing.Exit.TheVariants.{Next, Raised, Broke, Spent}
 use Rattle.fiber_body.specs.declared.standing.Frame.{Frame}
-use Rattle.fiber_body.specs.declared.standing.Frame.TheVariants.{Rest, Again, Catch}
+use Rattle.fiber_body.specs.declared.standing.Frame.TheVariants.{Rest, Repeats, Catches}
 use Rattle.fiber_body.specs.declared.standing.Standing.{Standing}
-use Rattle.fiber_body.specs.declared.standing.Standing.TheVariants.{At, Leaving}
-use Rattle.fiber_body.specs.Around.{Around}
-use Rattle.fiber_body.specs.Fits.{Leads, blocks_of, stmts_of_body}
-use Rattle.fiber_body.specs.Follows.{context_of}
-use Rattle.fiber_body.specs.Meaning.{Context, Exit, Runs}
-use Rattle.fiber_body.specs.Shown.{Shown, carry_of, context_at}
+use Rattle.fiber_body.specs.declared.standing.Standing.TheVariants.{At, Out, Ended}
+use Rattle.fiber_body.specs.Around.{Turns, around_of, place_of}
+use Rattle.fiber_body.specs.Context.{Context, block_at, holds, value, with_register}
+use Rattle.fiber_body.specs.Fits.{setting_of}
+use Rattle.fiber_body.specs.Phases.{Phase, ended}
+use Rattle.fiber_body.specs.Shown.{Shown, carry_of, stood}
+use Rattle.fiber_body.specs.Statements.{begins, result}
+use Rattle.fiber_body.specs.Tables.{ends_by, goes_into, settles}
+use Rattle.fiber_body.specs.Texts.{script_in}
+use Rattle.fiber_poll.specs.declared.spot.AtOnce.{AtOnce}
+use Rattle.fiber_poll.specs.declared.spot.AtOnce.TheVariants.{Ends, Chooses, Waits}
+use Rattle.fiber_poll.specs.declared.spot.Spot.{Spot}
 
--- how much a turn may still do at most: each statement costs a step, each block that is left is one frame
--- fewer, and a step enters two frames at most
-abbrev pub weight_at : Standing → ℕ → ℕ → ℕ
-weight_at (At block place) steps frames = 1 + (3 * steps + frames)
-weight_at (Leaving o) steps frames = 0
+-- ---- how much a turn may still do
+
+-- each statement and each round costs a step, each block that is left is one frame fewer, and a step enters two
+-- frames at most
+abbrev pub weight_at : Standing → ℕ
+weight_at (At block place) = 2
+weight_at (Out exit) = 1
+weight_at _ = 0
 
 abbrev pub weight : Shown → ℕ
-weight body = weight_at body.standing body.steps (length body.frames)
+weight body = weight_at body.standing + (5 * body.context.steps + 2 * length body.frames)
 
--- the log leads fiber f to the end of the innermost block, by this exit: whatever may come of what is
--- around that block, may come behind the log
-abbrev pub LeadsOut : Shown → ℕ → List Happened → Exit → Type 0
-LeadsOut body f log x = (rest : List Happened) (y : Exit) (d : Context)
-    → Around (blocks_of body) f body.frames x (context_at body) rest y d
-    → Runs (blocks_of body) f (stmts_of_body body) (context_of body.birth) (log ++ rest) y d
+-- ---- moves without an entry
 
--- the innermost block has ended by this exit, and the body stands now where its text goes on
-pub record Settles (exit : Exit) (old new : Shown) : Type 0 where
-  pub same : carry_of new ≡ carry_of old
-  pub leads : (f : ℕ) (log : List Happened) → LeadsOut old f log exit → Leads new f log new.standing
-  pub lighter : weight new ≤ 3 * old.steps + length old.frames
-
--- the body has moved on without an entry
-pub record Moves (old new : Shown) : Type 0 where
-  pub same : carry_of new ≡ carry_of old
-  pub leads : (f : ℕ) (log : List Happened) → Leads old f log old.standing → Leads new f log new.standing
-  pub lighter : weight new < weight old
-
--- the same, or the body stands where it stood
+-- whatever may come of where the body stands now, may come of where it stood; its fiber goes on
 pub record Goes (old new : Shown) : Type 0 where
   pub same : carry_of new ≡ carry_of old
-  pub leads : (f : ℕ) (log : List Happened) → Leads old f log old.standing → Leads new f log new.standing
-  pub lighter : weight new ≤ weight old
+  pub turns : (f : ℕ) → Turns (setting_of old f) (place_of old.standing) (around_of old.standing old.frames) old.context
+      (place_of new.standing) (around_of new.standing new.frames) new.context
+  pub live : new.standing ≢ Ended
 
--- the body once the step for a statement is spent
-abbrev pub spent_step : Shown → Shown
-spent_step body = record body { steps = body.steps - 1 }
+-- ---- at a statement
 
--- a loop is around
-abbrev pub HasLoop : List Frame → Type 0
-HasLoop [] = ⊥
-HasLoop (Rest block place ∷ frames) = HasLoop frames
-HasLoop (Again block ∷ frames) = ⊤
-HasLoop (Catch register handler ∷ frames) = HasLoop frames
+-- the body stands before this statement
+pub record IsAt (body : Shown) (spot : Spot) (one : Stmt) : Type 0 where
+  pub at : body.standing ≡ At spot.block spot.place
+  pub is : slice_get (block_at (script_in body.program).blocks spot.block) spot.place ≡ Some one
+  pub within : spot.place + 1 < 2 ^ 32
+
+-- the same, with a step left
+pub record IsBefore (body : Shown) (spot : Spot) (one : Stmt) : Type 0 where
+  pub here : IsAt body spot one
+  pub steps : 0 < body.context.steps
+
+-- where a body stands once the statement at this place has ended so
+abbrev pub behind_at : Spot → Exit → Standing
+behind_at spot Next = At spot.block (spot.place + 1)
+behind_at spot exit = Out exit
+
+-- the statements that cost a step as they begin
+abbrev pub CostsStep : Stmt → Type 0
+CostsStep (stmt.Loop block) = ⊥
+CostsStep _ = ⊤
+
+-- the statement has come to its end at once, by this exit, however many steps are left: registers and cells are what
+-- it made of them, and nothing else has changed
+pub record EndsAtOnce (old new : Shown) (one : Stmt) (exit : Exit) : Type 0 where
+  pub registers : List ℕ
+  pub cells : List ℕ
+  pub is : new ≡ record old { context = record old.context { registers = registers; cells = cells } }
+  pub costs : CostsStep one
+  pub row : (n : ℕ) → settles (record old.context { steps = n }) (begins (record old.context { steps = n }) one)
+      ≡ Some (ends_by exit (record old.context { registers = registers; cells = cells; steps = n }))
+
+-- the block that a test chooses, if there is one
+abbrev pub chosen : Context → Operand → Test → Operand → ℕ → Option ℕ → Option ℕ
+chosen c left test right then other = cond (holds test (value c left) (value c right)) (Some then) other
+
+-- the statement is a test that chooses this block, however many steps are left
+pub record ChoosesBlock (c : Context) (one : Stmt) (block : ℕ) : Type 0 where
+  pub costs : CostsStep one
+  pub row : (n : ℕ) → settles (record c { steps = n }) (begins (record c { steps = n }) one) ≡ Some (goes_into block (record c { steps = n }))
+
+abbrev pub IsNoTest : Stmt → Type 0
+IsNoTest (stmt.If left test right then other) = ⊥
+IsNoTest _ = ⊤
+
+-- the statement has a call, or the block of a loop or of a handler
+pub record IsWaiting (c : Context) (one : Stmt) : Type 0 where
+  pub not_done : result c.registers c.cells one ≡ None
+  pub no_test : IsNoTest one
+
+-- what comes of the statement at once
+abbrev pub IsAtOnce : Shown → Shown → Stmt → AtOnce → Type 0
+IsAtOnce old new one (Ends exit) = EndsAtOnce old new one exit
+IsAtOnce old new one (Chooses block) = (new ≡ old) × ChoosesBlock old.context one block
+IsAtOnce old new one Waits = (new ≡ old) × IsWaiting old.context one
+
+-- the body stands at this place, and nothing comes at once of the statement there, where there is a step; or the block
+-- is over
+pub record IsLeft (script : Tree) (body : Shown) (spot : Spot) : Type 0 where
+  pub at : body.standing ≡ At spot.block spot.place
+  pub waits : (one : Stmt) → slice_get (block_at script.blocks spot.block) spot.place ≡ Some one → 0 < body.context.steps → IsWaiting body.context one
+
+-- the body went on without a statement, and has less to do
+pub record WentOn (old new : Shown) : Type 0 where
+  pub goes : Goes old new
+  pub lighter : weight new < weight old
+
+-- ---- blocks
+
+-- the body in a block, for which a step is spent: around it is the rest of the block at hand, and these frames within
+-- that
+abbrev pub entered : Shown → Spot → List Frame → ℕ → Shown
+entered body spot exits block =
+    stood (record body { frames = exits ++ Rest spot.block (spot.place + 1) ∷ body.frames }) (At block 0) (body.context.steps - 1)
+
+-- the body in a block that a test chose: where no statement stands behind the test, no frame is needed
+abbrev pub branched : Shown → Spot → ℕ → Bool → Shown
+branched body spot block true = stood body (At block 0) (body.context.steps - 1)
+branched body spot block false = entered body spot [] block
+
+-- the block that runs again, where the innermost block has ended so: the body of a loop, which has a step for it
+abbrev pub round_of : Option Frame → Exit → ℕ → Option ℕ
+round_of (Some (Repeats block)) Next steps = cond (nat_lt 0 steps) (Some block) None
+round_of _ _ steps = None
+
+-- the body behind a frame, where what was in it has ended so: a loop doesn't go round any more
+abbrev pub passed : Shown → Frame → Exit → Shown
+passed body (Rest block place) Next = stood body (At block place) body.context.steps
+passed body (Repeats block) Next = stood body (Out Spent) body.context.steps
+passed body (Repeats block) Broke = stood body (Out Next) body.context.steps
+passed body (Catches register handler) (Raised code) =
+    stood (record body { context = with_register body.context register code }) (At handler 0) body.context.steps
+passed body frame exit = stood body (Out exit) body.context.steps
+
+-- ---- replies
+
+-- the body once the statement at this place has come to this phase, which is its end
+abbrev pub taken : Shown → Spot → Phase → Shown
+taken body spot (ended exit c) = record body { standing = behind_at spot exit; context = c }
+taken body spot phase = body

@@ -1,87 +1,121 @@
-//! Statements with blocks: entering them. Where a frame wants memory that isn't there, the body stays as
-//! it is.
-ghost use Rattle.std.specs.Prelude.{◌≡◌, ◌∷◌, OnErr, OnOk, ◌<◌, ◌+◌, ◌^◌};
+//! Blocks: entering them, and what is to be done where one has ended.
+ghost use Rattle.std.specs.Prelude.{◌≡◌, ◌<◌, ◌+◌, ◌^◌, slice_get, OnErr, OnOk};
+ghost use Rattle.std.specs.Option.{IfSome, option_to_list};
 ghost use Rattle.fiber_body.specs.Shown.{IsFrame};
-ghost use Rattle.fiber_poll.specs.Moving.{Moves};
-ghost use Rattle.fiber_poll.specs.UnderWay.{IsAt, IsBefore, IsBeforeBlock};
+ghost use Rattle.fiber_body.specs.Tables.{outcome_of};
+ghost use Rattle.fiber_poll.specs.Moving.{Goes, branched, entered, passed, round_of, weight};
 
 use crate::spot::Spot;
-use crate::stmts::go_on;
-use crate::unwinding::{begin_block, leave_spent};
-use fiber_body::{Body, Frame};
-use pic_base::Memory;
-use script_tree::Stmt;
+use fiber_body::{Body, Exit, Frame, Standing};
+use pic_base::{Memory, Outcome, Value};
 
-/// Runs the block that a test has chosen, and goes on behind the statement where there is none.
-pub(crate) fn enter(body: &mut Body, spot: Spot, block: Option<u32>) -> Result<(), Memory>
-    requires before { IsBeforeBlock body.old spot block }
-    ensures moves { OnOk result (Moves body.old body.new) }
-    ensures kept { OnErr result (body.new ≡ body.old) }
-{
-    let Some(block) = block else {
-        go_on(body, spot);
-        return Ok(());
-    };
-    body.push_frame(rest_of(spot))?;
-    begin_block(body, block);
-    Ok(())
-}
+/// The code with which a fiber is cancelled that has no step left.
+const NO_STEP: Value = 1;
 
-/// Runs a block whose raises a handler takes.
-pub(crate) fn enter_try(
+/// Lets the body stand at the beginning of a block, for which a step is spent: around it is the rest of the
+/// block at hand, and within that the exit of the new one, where there is something to do. Where a frame
+/// wants memory that isn't there, the body stays as it is.
+pub(crate) fn enter(
     body: &mut Body,
     spot: Spot,
+    exit: Option<Frame>,
     block: u32,
-    register: u8,
-    handler: u32,
 ) -> Result<(), Memory>
-    requires before { IsBefore body.old spot (Stmt.Try block register handler) }
-    requires register { register < 16 }
-    ensures moves { OnOk result (Moves body.old body.new) }
+    requires steps { 0 < body.old.context.steps }
+    requires within { spot.place + 1 < 2 ^ 32 }
+    requires frame { IfSome exit IsFrame }
+    ensures entered { OnOk result (body.new ≡ entered body.old spot (option_to_list exit) block) }
     ensures kept { OnErr result (body.new ≡ body.old) }
 {
-    push_both(body, rest_of(spot), Frame::Catch { register, handler })?;
-    begin_block(body, block);
-    Ok(())
-}
-
-/// Begins a loop: its body, with a step.
-pub(crate) fn enter_loop(body: &mut Body, spot: Spot, block: u32) -> Result<(), Memory>
-    requires at { IsAt body.old spot (Stmt.Loop block) }
-    ensures moves { OnOk result (Moves body.old body.new) }
-    ensures kept { OnErr result (body.new ≡ body.old) }
-{
-    if body.steps() == 0 {
-        leave_spent(body);
-        return Ok(());
-    }
-    push_both(body, rest_of(spot), Frame::Again { block })?;
-    begin_block(body, block);
-    Ok(())
-}
-
-/// What goes on behind the statement at this place.
-fn rest_of(spot: Spot) -> Frame
-    requires { spot.place + 1 < 2 ^ 64 }
-    ensures { result ≡ Frame.Rest spot.block (spot.place + 1) }
-{
-    Frame::Rest {
+    body.push_frame(Frame::Rest {
         block: spot.block,
         place: spot.place + 1,
+    })?;
+    if let Some(frame) = exit {
+        if body.push_frame(frame).is_err() {
+            body.pop_frame();
+            return Err(Memory);
+        }
+    }
+    body.stand(Standing::At { block, place: 0 }, body.steps() - 1);
+    Ok(())
+}
+
+/// Lets the body stand at the beginning of a block, for which a step is spent, and behind which the block at
+/// hand goes on. Where the statement is the last of that one, no frame is needed.
+pub(crate) fn take_branch(body: &mut Body, spot: Spot, block: u32, last: bool) -> Result<(), Memory>
+    requires steps { 0 < body.old.context.steps }
+    requires within { spot.place + 1 < 2 ^ 32 }
+    ensures entered { OnOk result (body.new ≡ branched body.old spot block last) }
+    ensures kept { OnErr result (body.new ≡ body.old) }
+{
+    if !last {
+        return enter(body, spot, None, block);
+    }
+    body.stand(Standing::At { block, place: 0 }, body.steps() - 1);
+    Ok(())
+}
+
+/// Goes on where the innermost block has ended so, with what is around it.
+pub(crate) fn leave(body: &mut Body, exit: Exit)
+    requires { body.old.standing ≡ Standing.Out exit }
+    ensures goes { Goes body.old body.new }
+    ensures lighter { weight body.new < weight body.old }
+{
+    let steps = body.steps();
+    if let Some(block) = round_of(body, exit) {
+        return body.stand(Standing::At { block, place: 0 }, steps - 1);
+    }
+    let Some(frame) = body.pop_frame() else {
+        let outcome = outcome_of(body, exit);
+        return body.stand(Standing::Ending(outcome), steps);
+    };
+    pass(body, frame, exit);
+}
+
+/// The block that runs again, where the innermost block has ended so: the body of a loop, which has a step
+/// for it.
+fn round_of(body: &Body, exit: Exit) -> Option<u32>
+    ensures { result ≡ round_of (slice_get body.now.frames 0) exit body.now.context.steps }
+{
+    let Some(Frame::Repeats { block }) = body.innermost() else {
+        return None;
+    };
+    let Exit::Next = exit else {
+        return None;
+    };
+    if body.steps() > 0 { Some(block) } else { None }
+}
+
+/// The outcome of a fiber whose text has ended so.
+fn outcome_of(body: &Body, exit: Exit) -> Outcome
+    ensures { result ≡ outcome_of exit body.now.context }
+{
+    match exit {
+        Exit::Raised(code) => Outcome::Cancelled(code),
+        Exit::Spent => Outcome::Cancelled(NO_STEP),
+        Exit::Next | Exit::Broke => Outcome::Returned(body.register(0)),
     }
 }
 
-/// Puts two frames around the block in which the body is to stand, or none.
-fn push_both(body: &mut Body, outer: Frame, inner: Frame) -> Result<(), Memory>
-    requires outer { IsFrame outer }
-    requires inner { IsFrame inner }
-    ensures pushed { OnOk result (body.new ≡ record body.old { frames = inner ∷ outer ∷ body.old.frames }) }
-    ensures kept { OnErr result (body.new ≡ body.old) }
+/// Lets the body stand behind a frame that was taken away, where what was in it has ended so: a loop doesn't
+/// go round any more.
+fn pass(body: &mut Body, frame: Frame, exit: Exit)
+    requires { IsFrame frame }
+    ensures { body.new ≡ passed body.old frame exit }
 {
-    body.push_frame(outer)?;
-    if body.push_frame(inner).is_err() {
-        body.pop_frame();
-        return Err(Memory);
-    }
-    Ok(())
+    let standing = match (frame, exit) {
+        (Frame::Rest { block, place }, Exit::Next) => Standing::At { block, place },
+        (Frame::Repeats { .. }, Exit::Next) => Standing::Out(Exit::Spent),
+        (Frame::Repeats { .. }, Exit::Broke) => Standing::Out(Exit::Next),
+        (Frame::Catches { register, handler }, Exit::Raised(code)) => {
+            body.set_register(register, code);
+            Standing::At {
+                block: handler,
+                place: 0,
+            }
+        }
+        (_, exit) => Standing::Out(exit),
+    };
+    body.stand(standing, body.steps());
 }

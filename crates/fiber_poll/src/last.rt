@@ -1,13 +1,14 @@
-//! The last call of a turn, by which the port gets the body back.
+//! The last call of a turn, by which the port gets the body back. The port keeps the body as it stands behind
+//! that call; where the call is refused, the body is set back.
 ghost use Rattle.std.specs.Prelude.{◌≡◌, ◌≢◌, ℕ, List, Option};
 ghost use Rattle.pic_machine.specs.Turning.{Polled};
 ghost use Rattle.fiber_body.specs.Fits.{Fits};
 ghost use Rattle.fiber_body.specs.Shown.{carry_of};
-ghost use Rattle.fiber_poll.specs.UnderWay.{IsBefore, IsHandedBack, IsUp};
+ghost use Rattle.fiber_poll.specs.Moving.{IsBefore};
+ghost use Rattle.fiber_poll.specs.UnderWay.{IsHandedBack, IsUp};
 
 use crate::spot::Spot;
-use crate::stmts::go_on;
-use fiber_body::{Body, Standing};
+use fiber_body::{Body, Exit, Standing};
 use pic_base::Outcome;
 use pic_machine::{Carried, Port, PortFault, ReadyLine, Turn};
 use script_tree::Stmt;
@@ -29,8 +30,7 @@ pub(crate) fn yield_turn<P: Port<Body = Body>, R: ReadyLine>(
     }
     let fiber = body.fiber();
     let steps = body.steps();
-    // The port keeps the body as it stands behind the yield.
-    go_on(&mut body, spot);
+    body.stand(spot.behind(Exit::Next), steps - 1);
     match port.lay(body, true) {
         Ok(()) => {
             line.add(fiber);
@@ -38,11 +38,11 @@ pub(crate) fn yield_turn<P: Port<Body = Body>, R: ReadyLine>(
         }
         Err((body, fault)) => {
             let mut body = body;
-            body.set_steps(steps);
-            body.set_standing(Standing::At {
+            let before = Standing::At {
                 block: spot.block,
                 place: spot.place,
-            });
+            };
+            body.stand(before, steps);
             handed_back(body, fault)
         }
     }
@@ -55,16 +55,22 @@ pub(crate) fn end_turn<P: Port<Body = Body>>(
     outcome: Outcome,
 ) -> Turn<Body>
     requires up { IsUp (P.sight port.old) body }
-    requires leaving { body.standing ≡ Standing.Leaving outcome }
+    requires ending { body.standing ≡ Standing.Ending outcome }
     ensures { (told : Option (List ℕ)) → Polled result carry_of Fits (P.sight port.old) (P.sight port.new) (carry_of body) told told }
 {
     let mut body = body;
     if body.reserve().is_err() {
         return Turn::Memory(body);
     }
+    let steps = body.steps();
+    body.stand(Standing::Ended, steps);
     match port.end(body, outcome) {
         Ok(()) => Turn::Ended,
-        Err((body, fault)) => handed_back(body, fault),
+        Err((body, fault)) => {
+            let mut body = body;
+            body.stand(Standing::Ending(outcome), steps);
+            handed_back(body, fault)
+        }
     }
 }
 

@@ -8,16 +8,15 @@
 #![tactic(auto)]
 
 mod blocks;
-mod changes;
+mod calls;
 mod forms;
 mod last;
+mod making;
 mod poller;
-mod run;
-mod spawn;
+mod silent;
 mod spot;
 mod stmts;
 mod turn;
-mod unwinding;
 mod values;
 
 pub use forms::built;

@@ -1,10 +1,40 @@
+ghost use Rattle.std.specs.Prelude.{◌≡◌, ◌<◌, ◌+◌, ◌^◌};
+ghost use Rattle.fiber_poll.specs.Moving.{behind_at};
+
+use fiber_body::{Exit, Standing};
 use pic_base::Outcome;
 
-/// A place in a block: before the statement with this place, or at the block's end.
+/// A place in a block: that of a statement, or the block's end.
 #[derive(Clone, Copy)]
 pub(crate) struct Spot {
     pub block: u32,
-    pub place: usize,
+    pub place: u32,
+}
+
+impl Spot {
+    /// That a fiber stands there.
+    pub(crate) fn here(self) -> Standing
+        ensures { result ≡ Standing.At self.block self.place }
+    {
+        Standing::At {
+            block: self.block,
+            place: self.place,
+        }
+    }
+
+    /// Where a fiber stands once the statement at this place has ended so.
+    pub(crate) fn behind(self, exit: Exit) -> Standing
+        requires { self.place + 1 < 2 ^ 32 }
+        ensures { result ≡ behind_at self exit }
+    {
+        match exit {
+            Exit::Next => Standing::At {
+                block: self.block,
+                place: self.place + 1,
+            },
+            exit => Standing::Out(exit),
+        }
+    }
 }
 
 /// What ends a turn.
@@ -14,4 +44,15 @@ pub(crate) enum Last {
     Yield(Spot),
     /// The fiber's end, with this outcome.
     End(Outcome),
+}
+
+/// What comes of a statement at once.
+#[derive(Clone, Copy)]
+pub(crate) enum AtOnce {
+    /// It has come to its end, in this way.
+    Ends(Exit),
+    /// It is a test, and chose this block.
+    Chooses(u32),
+    /// Nothing: it has a call, or the block of a loop or of a handler.
+    Waits,
 }

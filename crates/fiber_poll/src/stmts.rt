@@ -1,97 +1,82 @@
-//! Statements that make an entry, each by one call of the port, for which there is room.
-ghost use Rattle.std.specs.Prelude.{◌≡◌, ◌≢◌, ℕ, ◌<◌, ◌+◌, ◌^◌, length, List, Option, Some, IfErr, OnOk};
-ghost use Rattle.pic_machine.specs.Sight.{Sight};
+//! Statements that don't come to their end at once: those with a block, and those with a call.
+ghost use Rattle.std.specs.Prelude.{◌≡◌, ◌≢◌, ◌<◌, None, IfErr, IfOk, OnErr, OnOk};
+ghost use Rattle.std.specs.Bool.{OnFalse, OnTrue};
+ghost use Rattle.pic_machine.specs.Lending.{Calm, Faulted};
+ghost use Rattle.fiber_body.specs.Statements.{first, result as result_of};
+ghost use Rattle.fiber_body.specs.Phases.{calls};
+ghost use Rattle.fiber_poll.specs.Moving.{Goes, IsBefore, IsWaiting, weight};
+ghost use Rattle.fiber_poll.specs.Polls.{IsPortOf};
+ghost use Rattle.fiber_poll.specs.UnderWay.{CanRun, IsOn, IsUp};
 ghost use Rattle.script_tree.specs.Tree.{Tree};
-ghost use Rattle.script_tree.specs.WellFormed.{IsValue};
-ghost use Rattle.fiber_poll.specs.Moving.{weight};
-ghost use Rattle.fiber_poll.specs.UnderWay.{GaveUp, IsBefore, IsBeforeComplete, IsBeforePeek, IsOn, IsUp, behind};
 
+use crate::blocks::enter;
+use crate::calls::{call_of, take};
+use crate::making::make;
+use crate::poller::ScriptPoller;
 use crate::spot::Spot;
-use crate::values::{outcome_number, state_number, value_of, won};
-use fiber_body::{Body, Standing};
-use pic_base::{CompNo, Outcome, Value};
-use pic_machine::{Port, PortFault};
-use script_tree::{Operand, Stmt};
+use fiber_body::{Body, Frame};
+use pic_base::Memory;
+use pic_machine::{Carried, Port, PortFault, ReadyLine};
+use script_tree::Stmt;
 
-/// Lets the body stand behind the statement at this place.
-pub(crate) fn go_on(body: &mut Body, spot: Spot)
-    requires steps { 0 < body.old.steps }
-    requires within { spot.place + 1 < 2 ^ 64 }
-    ensures { body.new ≡ behind body.old spot }
+/// Enters the block of a loop, or that of a statement with a handler. Answers false, and changes nothing,
+/// where the statement has no block.
+pub(crate) fn enter_block(body: &mut Body, spot: Spot, stmt: &Stmt) -> Result<bool, Memory>
+    requires before { IsBefore body.old spot stmt.now }
+    requires waits { IsWaiting body.old.context stmt.now }
+    requires can { (script : Tree) × CanRun script stmt.now }
+    ensures goes { IfOk result (λ has. OnTrue has (Goes body.old body.new)) }
+    ensures lighter { IfOk result (λ has. OnTrue has (weight body.new < weight body.old)) }
+    ensures none { IfOk result (λ has. OnFalse has (body.new ≡ body.old)) }
+    ensures calls { IfOk result (λ has. OnFalse has (first body.old.context stmt.now ≡ calls stmt.now)) }
+    ensures kept { OnErr result (body.new ≡ body.old) }
 {
-    body.set_steps(body.steps() - 1);
-    body.set_standing(Standing::At {
-        block: spot.block,
-        place: spot.place + 1,
-    });
+    match stmt {
+        Stmt::Loop(block) => enter(body, spot, Some(Frame::Repeats { block: *block }), *block)?,
+        Stmt::Try {
+            body: block,
+            register,
+            handler,
+        } => {
+            let exit = Frame::Catches {
+                register: *register,
+                handler: *handler,
+            };
+            enter(body, spot, Some(exit), *block)?
+        }
+        _ => return Ok(false),
+    }
+    Ok(true)
 }
 
-/// Says a value.
-pub(crate) fn say<P: Port<Body = Body>>(
+/// Makes the call of a statement, which is no yield, and ends the statement by its reply.
+pub(crate) fn call<P: Port<Body = Body>, R: ReadyLine>(
+    poller: &ScriptPoller,
     port: &mut P,
+    line: &mut R,
     body: &mut Body,
     spot: Spot,
-    operand: Operand,
+    stmt: &Stmt,
 ) -> Result<(), PortFault>
+    requires port_of { IsPortOf poller.now (P.sight port.old) }
     requires up { IsUp (P.sight port.old) body.old }
-    requires room { 0 < body.old.room }
-    requires before { IsBefore body.old spot (Stmt.Say operand) }
-    requires value { IsValue operand }
-    ensures on { (told : Option (List ℕ)) → IsOn (P.sight port.old) (P.sight port.new) body.old body.new told told }
+    requires before { IsBefore body.old spot stmt.now }
+    requires not_done { result_of body.old.context.registers body.old.context.cells stmt.now ≡ None }
+    requires calls { first body.old.context stmt.now ≡ calls stmt.now }
+    requires no_yield { stmt.now ≢ Stmt.Yield }
+    requires can { CanRun poller.now stmt.now }
+    ensures on { IsOn (P.sight port.old) (P.sight port.new) body.old body.new (R.told line.old) (R.told line.new) }
     ensures lighter { OnOk result (weight body.new < weight body.old) }
-    ensures gave_up { IfErr result (λ fault. GaveUp fault (P.sight port.old) (P.sight port.new)) }
+    ensures calm { OnOk result (Calm (P.sight port.old) (P.sight port.new)) }
+    ensures gave_up { IfErr result (λ fault. Faulted fault (P.sight port.old) (P.sight port.new)) }
 {
-    let value = value_of(body, operand);
-    port.say(body, value)?;
-    go_on(body, spot);
-    Ok(())
-}
-
-/// Completes a computation, and puts into a register whether this call did.
-pub(crate) fn complete<P: Port<Body = Body>>(
-    port: &mut P,
-    body: &mut Body,
-    spot: Spot,
-    register: u8,
-    comp: CompNo,
-    outcome: Outcome,
-) -> Result<(), PortFault>
-    requires up { IsUp (P.sight port.old) body.old }
-    requires room { 0 < body.old.room }
-    requires before { IsBeforeComplete body.old spot register comp outcome }
-    requires register { register < 16 }
-    requires stands { comp < length (P.sight port.old).origin.world.comps }
-    ensures on { (told : Option (List ℕ)) → IsOn (P.sight port.old) (P.sight port.new) body.old body.new told told }
-    ensures lighter { OnOk result (weight body.new < weight body.old) }
-    ensures gave_up { IfErr result (λ fault. GaveUp fault (P.sight port.old) (P.sight port.new)) }
-{
-    let reply = port.complete(body, comp, outcome)?;
-    body.set_register(register, won(reply));
-    go_on(body, spot);
-    Ok(())
-}
-
-/// Looks at a computation, and puts into two registers how it stands, and its value or code.
-pub(crate) fn peek<P: Port<Body = Body>>(
-    port: &mut P,
-    body: &mut Body,
-    spot: Spot,
-    registers: (u8, u8),
-    comp: CompNo,
-) -> Result<(), PortFault>
-    requires up { IsUp (P.sight port.old) body.old }
-    requires room { 0 < body.old.room }
-    requires before { IsBeforePeek body.old spot registers.0 registers.1 comp }
-    requires state { registers.0 < 16 }
-    requires value { registers.1 < 16 }
-    requires stands { comp < length (P.sight port.old).origin.world.comps }
-    ensures on { (told : Option (List ℕ)) → IsOn (P.sight port.old) (P.sight port.new) body.old body.new told told }
-    ensures lighter { OnOk result (weight body.new < weight body.old) }
-    ensures gave_up { IfErr result (λ fault. GaveUp fault (P.sight port.old) (P.sight port.new)) }
-{
-    let seen = port.peek(body, comp)?;
-    body.set_register(registers.0, state_number(seen));
-    body.set_register(registers.1, outcome_number(seen));
-    go_on(body, spot);
+    let Some(call) = call_of(&poller.numbers, body, stmt) else {
+        unreachable!("the statement is built");
+    };
+    if body.reserve().is_err() {
+        return Err(PortFault::Memory);
+    }
+    let reply = make(poller, port, line, body, call)?;
+    take(body, spot, stmt, reply);
     Ok(())
 }

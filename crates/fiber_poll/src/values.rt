@@ -1,25 +1,11 @@
 //! The numbers that statements compute with.
-ghost use Rattle.std.specs.Prelude.{◌≡◌, ◌≤◌, ◌<◌, ◌+◌, length, Some};
-ghost use Rattle.script_tree.specs.WellFormed.{IsValue};
-ghost use Rattle.fiber_body.specs.Meaning.{comp_number, holds, outcome_number, state_number, value_of, won};
-ghost use Rattle.fiber_body.specs.Numbers.{IsDeclared};
-ghost use Rattle.fiber_body.specs.Shown.{context_at};
+ghost use Rattle.std.specs.Prelude.{◌≡◌};
+ghost use Rattle.fiber_body.specs.Context.{holds};
+ghost use Rattle.fiber_body.specs.Statements.{outcome_number, state_number, won};
 
-use fiber_body::{Body, number_of};
-use pic_base::{CompNo, Outcome, Value};
+use pic_base::{Outcome, Value};
 use pic_machine::CompleteReply;
-use script_tree::{CompRef, Operand, Program, Test};
-
-/// The value of an operand.
-pub(crate) fn value_of(body: &Body, operand: Operand) -> Value
-    requires { IsValue operand }
-    ensures { result ≡ value_of (context_at body.now) operand }
-{
-    match operand {
-        Operand::Reg(register) => body.register(register),
-        Operand::Num(value) => value,
-    }
-}
+use script_tree::Test;
 
 /// Whether the comparison holds.
 pub(crate) fn holds(test: Test, left: Value, right: Value) -> bool
@@ -32,17 +18,6 @@ pub(crate) fn holds(test: Test, left: Value, right: Value) -> bool
         Test::Le => left <= right,
         Test::Gt => left > right,
         Test::Ge => left >= right,
-    }
-}
-
-/// The number of a computation that the program declares.
-pub(crate) fn comp_of(program: &Program, comp: CompRef) -> CompNo
-    requires { IsDeclared program.now comp }
-    ensures { comp_number comp ≡ Some result }
-{
-    match number_of(program, comp) {
-        Some(number) => number,
-        None => unreachable!("the program declares the computation"),
     }
 }
 

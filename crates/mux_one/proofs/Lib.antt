@@ -1,1 +1,2 @@
+pub mod Patients
 pub mod Running

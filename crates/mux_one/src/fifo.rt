@@ -1,6 +1,6 @@
 ghost use Rattle.std.specs.Prelude.{◌≡◌, ◌≢◌, ⊤, ◌+◌, ◌≤◌, ◌∷◌, None, [], false, IfOk, OnOk};
 ghost use Rattle.pic_machine.specs.Final.{IsFinal};
-ghost use Rattle.pic_machine.specs.History.{IsLegal, event, origin_of, world};
+ghost use Rattle.pic_machine.specs.History.{IsLegal, event, world};
 ghost use Rattle.pic_machine.specs.Lending.{Began};
 ghost use Rattle.pic_machine.specs.Log.{log};
 ghost use Rattle.pic_machine.specs.Order.{IsInFifoOrder, turns_over};
@@ -8,7 +8,7 @@ ghost use Rattle.pic_machine.specs.Sight.{Holds, fiber_of};
 ghost use Rattle.pic_machine.specs.Step.{IsLive};
 ghost use Rattle.pic_machine.specs.Turning.{Stopped};
 ghost use Rattle.mux_one.specs.UnderWay.{IsUnderWay, told_by};
-ghost use Rattle.port_plain.specs.Shown.{sight_of};
+ghost use Rattle.port_plain.specs.Shown.{origin_in, sight_of};
 
 use crate::line::Line;
 use pic_base::{FiberNo, Memory};
@@ -26,11 +26,11 @@ pub fn run_fifo<B: Carried + Send, Q: Poller<PlainPort<B>>>(
     requires polls { Q.polls poller.now (sight_of B.seen port) }
     requires fresh { port.front ≡ [] }
     requires out { port.out ≡ None }
-    ensures origin { IfOk result (λ done. origin_of done.start ≡ origin_of port.start) }
+    ensures origin { IfOk result (λ done. origin_in B.seen done ≡ origin_in B.seen port) }
     ensures share { IfOk result (λ done. (B.seen done.main).share ≡ (B.seen port.main).share) }
-    ensures legal { IfOk result (λ done. IsLegal (origin_of done.start) done.front) }
+    ensures legal { IfOk result (λ done. IsLegal (origin_in B.seen done) done.front) }
     ensures ordered { IfOk result (λ done. IsInFifoOrder done.front) }
-    ensures over { IfOk result (λ done. IsFinal (world (origin_of done.start) done.front)) }
+    ensures over { IfOk result (λ done. IsFinal (world (origin_in B.seen done) done.front)) }
     ensures out { IfOk result (λ done. done.out ≡ None) }
 {
     let mut port = port;
@@ -53,7 +53,7 @@ fn run_turn<B: Carried + Send, Q: Poller<PlainPort<B>>>(
     requires polls { Q.polls poller.now (sight_of B.seen port.old) }
     requires whole { line.old.lost ≡ false }
     requires under_way { IsUnderWay (sight_of B.seen port.old) (fiber ∷ line.old.queue.items) }
-    ensures origin { OnOk result (origin_of port.new.start ≡ origin_of port.old.start) }
+    ensures origin { OnOk result (origin_in B.seen port.new ≡ origin_in B.seen port.old) }
     ensures share { OnOk result ((B.seen port.new.main).share ≡ (B.seen port.old.main).share) }
     ensures whole { OnOk result (line.new.lost ≡ false) }
     ensures under_way { OnOk result (IsUnderWay (sight_of B.seen port.new) line.new.queue.items) }
@@ -71,7 +71,7 @@ fn run_turn<B: Carried + Send, Q: Poller<PlainPort<B>>>(
 fn claim<B: Carried + Send>(port: &mut PlainPort<B>, fiber: FiberNo) -> Result<B, Memory>
     requires out { port.old.out ≡ None }
     requires range { (1 ≤ fiber) × (fiber ≤ port.old.start.limits.fibers) }
-    requires live { IsLive (world (origin_of port.old.start) port.old.front) fiber }
+    requires live { IsLive (world (origin_in B.seen port.old) port.old.front) fiber }
     ensures made { OnOk result (Began (sight_of B.seen port.old) (sight_of B.seen port.new)
         (event fiber Call.Turn Reply.Plain)) }
     ensures body { IfOk result (λ body. Holds (sight_of B.seen port.new) (B.seen body)
@@ -112,11 +112,11 @@ fn poll<B: Carried + Send, Q: Poller<PlainPort<B>>>(
 /// The port, which says that all is over.
 fn finish<B: Carried + Send>(port: PlainPort<B>) -> Result<PlainPort<B>, Memory>
     requires under_way { IsUnderWay (sight_of B.seen port) [] }
-    ensures origin { IfOk result (λ done. origin_of done.start ≡ origin_of port.start) }
+    ensures origin { IfOk result (λ done. origin_in B.seen done ≡ origin_in B.seen port) }
     ensures share { IfOk result (λ done. (B.seen done.main).share ≡ (B.seen port.main).share) }
     ensures front { IfOk result (λ done. done.front ≡ port.front) }
-    ensures legal { IfOk result (λ done. IsLegal (origin_of done.start) done.front) }
-    ensures over { IfOk result (λ done. IsFinal (world (origin_of done.start) done.front)) }
+    ensures legal { IfOk result (λ done. IsLegal (origin_in B.seen done) done.front) }
+    ensures over { IfOk result (λ done. IsFinal (world (origin_in B.seen done) done.front)) }
     ensures out { IfOk result (λ done. done.out ≡ None) }
 {
     let mut port = port;

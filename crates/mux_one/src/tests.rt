@@ -1,14 +1,16 @@
 //! Runs in the FIFO order, of bodies that yield so many times and then end.
-ghost use Rattle.std.specs.Prelude.{◌≡◌, ◌≢◌, ◌+◌, ◌-◌, ◌≤◌, ◌<◌, [], Some, None, Err, length, vec_len, vec_capacity};
+ghost use Rattle.pic_machine.proofs.Owns.{yields_own_below};
+ghost use Rattle.std.specs.Prelude.{◌≡◌, ◌≢◌, ◌+◌, ◌≤◌, ◌<◌, [], Some, None, Err, length};
 ghost use Rattle.std.proofs.Common.{◌∙◌, sym, arith, refl};
-ghost use Rattle.pic_base.specs.declared.limits.TheConstants.{STEPS};
+ghost use Rattle.pic_base.specs.Steps.{most_steps};
 ghost use Rattle.pic_machine.specs.Log.{log, visible};
-ghost use Rattle.pic_machine.specs.Order.{turns_over};
+ghost use Rattle.pic_machine.specs.Order.{yields};
 ghost use Rattle.pic_machine.specs.Sight.{Holds, fiber_of, nothing};
 ghost use Rattle.pic_machine.specs.Turning.{Polled, Went};
-ghost use Rattle.pic_machine.specs.Lending.{Rose};
+ghost use Rattle.pic_machine.specs.Lending.{Calm, Rose};
 
 use super::run_fifo;
+use entry_log::EntryLog;
 use pic_base::{FiberNo, Limits, Memory, Outcome};
 use pic_machine::{
     Birth, Call, Carried, Entry, Poller, Port, PortFault, ReadyLine, Reply, Start, Turn,
@@ -17,13 +19,12 @@ use port_plain::PlainPort;
 use std::alloc::Global;
 use std::test::Fail;
 
-/// It has so many turns left, the one in which it ends included, and may fork a child
-/// in its first one.
+/// It has so many turns left, the one in which it ends included, and may fork a child in its first one.
 #[derive(Drop)]
 struct Patient {
     birth: Birth,
     number: Option<FiberNo>,
-    noted: Vec<Entry>,
+    noted: EntryLog,
     left: u32,
     forks: bool,
 }
@@ -34,16 +35,16 @@ impl Carried for Patient {
     ghost seen = { λ body. record {
       birth = body.birth;
       number = body.number;
-      noted = body.noted.items;
-      room = vec_capacity body.noted - vec_len body.noted;
+      noted = body.noted.entries;
+      room = body.noted.room;
       owes = nothing;
       share = tt;
     } };
 
     ghost same_rest = { λ old new. new.left ≡ old.left };
 
-    ghost fits = { λ body log. (body.noted.items ≡ visible log)
-        × (body.number ≢ Some 0 → turns_over log + body.left ≤ STEPS + 1) };
+    ghost fits = { λ body log. (body.noted.entries ≡ visible log)
+        × (body.number ≢ Some 0 → yields log + body.left ≤ most_steps) };
 
     fn birth(&self) -> Birth {
         self.birth
@@ -61,12 +62,12 @@ impl Carried for Patient {
     }
 
     fn reserve(&mut self) -> Result<(), Memory> {
-        self.noted.reserve(1)?;
-        Ok(())
+        self.noted.reserve()
     }
 
-    fn note(&mut self, entry: Entry) {
-        self.noted.push_reserved(entry);
+    fn note(&mut self, call: Call, reply: Reply) {
+        let fiber = self.fiber();
+        self.noted.push_reserved(Entry { fiber, call, reply });
     }
 
     ghost shows = { λ body log fits. fits.0 };
@@ -108,7 +109,7 @@ impl<P: Port<Body = Patient>> Poller<P> for Patiently {
 
     ghost polls_later = { λ poller old new polls origin share. rw origin polls };
 
-    ghost few = { λ poller body log number fits. omega (arith, fits.1 number) };
+    ghost few = { λ poller body log number fits. omega (arith, fits.1 number, yields_own_below log) };
 }
 
 /// Forks a child, if there is room for one, and ends the turn.
@@ -123,7 +124,7 @@ fn fork_and_stop<P: Port<Body = Patient>, R: ReadyLine>(
     requires fits { ⟦<Patient as Carried>⟧.fits body
         (log (P.sight port.old).front (fiber_of (⟦<Patient as Carried>⟧.seen body))) }
     requires left { 0 < body.left }
-    requires room { vec_len body.noted < vec_capacity body.noted }
+    requires room { 0 < body.noted.room }
     requires comps { 0 < length (P.sight port.old).origin.world.comps }
     ensures { Polled result ⟦<Patient as Carried>⟧.seen ⟦<Patient as Carried>⟧.fits
         (P.sight port.old) (P.sight port.new)
@@ -148,7 +149,7 @@ fn fork_child<P: Port<Body = Patient>, R: ReadyLine>(
     requires fiber { fiber_of (⟦<Patient as Carried>⟧.seen body.old) ≢ 0 }
     requires fits { ⟦<Patient as Carried>⟧.fits body.old
         (log (P.sight port.old).front (fiber_of (⟦<Patient as Carried>⟧.seen body.old))) }
-    requires room { vec_len body.old.noted < vec_capacity body.old.noted }
+    requires room { 0 < body.old.noted.room }
     requires comps { 0 < length (P.sight port.old).origin.world.comps }
     ensures went { Went (P.sight port.old) (P.sight port.new)
         (⟦<Patient as Carried>⟧.seen body.old) (⟦<Patient as Carried>⟧.seen body.new)
@@ -158,6 +159,7 @@ fn fork_child<P: Port<Body = Patient>, R: ReadyLine>(
     ensures left { body.new.left ≡ body.old.left }
     ensures again { result ≡ Err PortFault.Again
         → Rose (P.sight port.old).contention (P.sight port.new).contention }
+    ensures calm { result ≢ Err PortFault.Again → Calm (P.sight port.old) (P.sight port.new) }
 {
     let child = Patient::new(alloc, 4, 2, false);
     match port.fork(body, 4, 0, child) {
@@ -208,7 +210,7 @@ fn stop_with_room<P: Port<Body = Patient>, R: ReadyLine>(
     requires fits { ⟦<Patient as Carried>⟧.fits body
         (log (P.sight port.old).front (fiber_of (⟦<Patient as Carried>⟧.seen body))) }
     requires left { 0 < body.left }
-    requires room { vec_len body.noted < vec_capacity body.noted }
+    requires room { 0 < body.noted.room }
     ensures { Polled result ⟦<Patient as Carried>⟧.seen ⟦<Patient as Carried>⟧.fits
         (P.sight port.old) (P.sight port.new)
         (⟦<Patient as Carried>⟧.seen body) (R.told line.old) (R.told line.new) }
@@ -233,7 +235,7 @@ fn stop_with_room<P: Port<Body = Patient>, R: ReadyLine>(
 
 /// The body whose turn could not end, with the turn that it had taken.
 fn refused(body: Patient, fault: PortFault) -> Turn<Patient>
-    requires few { body.left ≤ STEPS }
+    requires few { body.left < most_steps }
     ensures again { fault ≡ PortFault.Again → result ≡ Turn.Again (record body { left = body.left + 1 }) }
     ensures memory { fault ≢ PortFault.Again → result ≡ Turn.Memory (record body { left = body.left + 1 }) }
 {
@@ -250,7 +252,7 @@ impl Patient {
     fn new(alloc: Global, text: u32, left: u32, forks: bool) -> Patient
         ensures birth { result.birth ≡ record { text = text; value = 0; current = 0 } }
         ensures number { result.number ≡ None }
-        ensures noted { result.noted.items ≡ [] }
+        ensures noted { result.noted.entries ≡ [] }
         ensures left { result.left ≡ left }
     {
         Patient {
@@ -260,7 +262,7 @@ impl Patient {
                 current: 0,
             },
             number: None,
-            noted: Vec::new(alloc),
+            noted: EntryLog::new(alloc),
             left,
             forks,
         }
@@ -283,7 +285,8 @@ fn start() -> Start
 #[test]
 fn fibers_take_turns_and_end(rt: HostRuntime) -> Result<(), Fail> {
     let main = Patient::new(rt.alloc(), 3, 2, true);
-    let clock = Patient::new(rt.alloc(), 0, 0, false);
+    let mut clock = Patient::new(rt.alloc(), 0, 0, false);
+    clock.number(0);
     let port = PlainPort::open(rt.alloc(), &start(), main, clock)?;
     let poller = Patiently { alloc: rt.alloc() };
     let done = run_fifo(rt.alloc(), &poller, port)?;

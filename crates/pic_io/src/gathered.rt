@@ -35,6 +35,7 @@ impl<S> Gathered<S> {
     }
 
     /// Adds a piece to what was gathered. The first one takes the memory for all that follow.
+    #[inline(always)]
     fn gather(&mut self, piece: &[u8]) -> Result<(), AllocError>
         requires { length self.old.gathered.items + length piece.now ≤ ROOM }
         ensures ok { OnOk result (self.new.gathered.items ≡ self.old.gathered.items ++ piece.now) }
@@ -79,6 +80,7 @@ impl<S: Sink> Sink for Gathered<S> {
     /// A piece that fits in the room is gathered. Before any other one, what was gathered is handed
     /// on; a piece that is longer than the whole room then goes to the inner sink in one put. Where
     /// the memory of the room is refused, so is the piece.
+    #[inline(always)]
     fn put(&mut self, piece: &[u8]) -> Result<usize, SinkRefusal>
         requires { 0 < length piece.now }
         ensures some { IfOk result (λ n. 0 < n) }

@@ -67,17 +67,3 @@ pub trait Sink {
             Rose (fault_count self.old) (fault_count self.new) }
         ensures steady { fault_count self.old ≤ fault_count self.new };
 }
-
-impl<S: Sink> Sink for &mut S {
-    ghost taken = { λ sink. S.taken sink.now };
-
-    ghost fault_count = { λ sink. S.fault_count sink.now };
-
-    fn faults(&self) -> u64 {
-        Sink::faults(&**self)
-    }
-
-    fn put(&mut self, piece: &[u8]) -> Result<usize, SinkRefusal> {
-        Sink::put(&mut **self, piece)
-    }
-}

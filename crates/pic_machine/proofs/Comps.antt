@@ -8,7 +8,7 @@ use Rattle.pic_machine.proofs.Steps.{length-comps}
 
 comps_from : (w : State) (hs : List Happened) → length (world_from w hs).comps ≡ length w.comps
 comps_from w [] = refl
-comps_from w (h ∷ hs) = comps_from (after w h.entry.fiber h.entry.call) hs ∙ length-comps w h.entry.fiber h.entry.call
+comps_from w (h ∷ hs) = comps_from (after w h.entry.fiber h.entry.call) hs ∙ length-comps w h.entry.call
 
 pub comps_stay : (origin : Origin) (hs : List Happened) → length (world origin hs).comps ≡ length origin.world.comps
 comps_stay origin hs = comps_from origin.world hs

@@ -1,25 +1,20 @@
 -- A fiber that has ended tells so by its log: the last entry there is its end.
-use Rattle.std.proofs.Common.{◌≡◌, ◌≢◌, ◌⊎◌, ℕ, zero, suc, ◌+◌, ◌-◌, ◌==◌, inl, inr, Bool, true, false, Option, Some, List, [], ◌∷◌, ◌++◌, slice_get, slice_set, refl, sym, ap, subst, ◌∙◌, append_assoc, arith}
-use Rattle.pic_base.specs.declared.action.Action.TheVariants.{Resume}
+use Rattle.std.proofs.Common.{◌≡◌, ◌≢◌, ℕ, zero, suc, ◌+◌, ◌-◌, ◌==◌, inl, inr, Bool, true, false, Some, List, [], ◌∷◌, ◌++◌, slice_get, slice_set, refl, sym, ap, subst, ◌∙◌, append_assoc, arith}
+use Rattle.std.proofs.lemmas.Bool.Decides.{nat_tests}
 use Rattle.pic_base.specs.declared.outcome.Outcome.{Outcome}
 use Rattle.pic_machine.specs.declared.state.FiberState.{FiberState}
-use Rattle.pic_machine.specs.declared.state.FiberState.TheVariants.{Live, Suspended, Ended}
-use Rattle.pic_machine.specs.declared.state.TrigState.{TrigState}
-use Rattle.pic_machine.specs.declared.state.TrigState.TheVariants.{Initial, Awaiting}
+use Rattle.pic_machine.specs.declared.state.FiberState.TheVariants.{Live, Ended}
 use Rattle.pic_machine.specs.declared.entry.Call.{Call}
-use Rattle.pic_machine.specs.declared.entry.Call.TheVariants as call
-use Rattle.pic_machine.specs.declared.entry.Call.TheVariants.{Arm, Fork, End}
+use Rattle.pic_machine.specs.declared.entry.Call.TheVariants.{Fork, End}
 use Rattle.pic_machine.specs.Happened.{Happened}
 use Rattle.pic_machine.specs.State.{State}
-use Rattle.pic_machine.specs.Step.{Allowed, MayAct, after, has_room, reply_of}
+use Rattle.pic_machine.specs.Step.{Allowed, MayAct, after, fibers_after, grown, has_room, reply_of}
 use Rattle.pic_machine.specs.History.{Origin, IsLegal, world, world_from}
 use Rattle.pic_machine.specs.Log.{is_logged, is_turn, log}
 use Rattle.pic_machine.proofs.Histories.{world-push}
 use Rattle.pic_machine.proofs.Onward.{logged}
-use Rattle.pic_machine.proofs.Standing.{not_same}
-use Rattle.pic_machine.proofs.Callers.{not_clock}
-use Rattle.pic_machine.proofs.Lists.{read_set, slice_get-one_less}
-use Rattle.pic_machine.proofs.Parts.{fibers-after, fibers_by, resumed_at, suspended_at}
+use Rattle.pic_machine.proofs.Standing.{not_logged}
+use Rattle.pic_machine.proofs.Steps.{not_clock, slice_get-set_other}
 
 -- ---- entry by entry
 
@@ -33,7 +28,7 @@ abbrev pub AreSteps : State → List Happened → Type 0
 AreSteps w [] = Unit {0}
 AreSteps w (h ∷ hs) = IsStep w h × AreSteps (after w h.entry.fiber h.entry.call) hs
 
-pub steps_from : (origin : Origin) (front back : List Happened) → IsLegal origin (front ++ back) → AreSteps (world origin front) back
+steps_from : (origin : Origin) (front back : List Happened) → IsLegal origin (front ++ back) → AreSteps (world origin front) back
 steps_from origin front [] legal = tt
 steps_from origin front (h ∷ back) legal =
     let assoc : (front ++ h ∷ []) ++ back ≡ front ++ h ∷ back = append_assoc front (h ∷ []) back in
@@ -52,51 +47,46 @@ pub data EndedBy (w : State) (g : ℕ) (call : Call) (place : ℕ) (o : Outcome)
   here : g ≡ place + 1 → call ≡ End o → EndedBy w g call place o
 
 -- who may act hasn't ended
-acts_not : (w : State) (g place : ℕ) (o : Outcome) → MayAct w g → slice_get w.fibers place ≡ Some (Ended o) → g ≢ place + 1
+pub acts_not : (w : State) (g place : ℕ) (o : Outcome) → MayAct w g → slice_get w.fibers place ≡ Some (Ended o) → g ≢ place + 1
 acts_not w g place o (inl clock) ended = λ same. absurd (omega (arith, clock, same))
 acts_not w g place o (inr live) ended = λ same.
     let one : g - 1 ≡ place = omega (arith, same) in
     let both : Some Live ≡ Some (Ended o) = sym live.live ∙ (ap (λ (k : ℕ). slice_get w.fibers k) one ∙ ended) in
     absurd cc
 
--- what was written somewhere and is no end ended nobody
-unended : (fibers : List FiberState) (at place : ℕ) (x : FiberState) (o : Outcome) → x ≢ Ended o → slice_get (slice_set fibers at x) place ≡ Some (Ended o) → slice_get fibers place ≡ Some (Ended o)
-unended fibers at place x o other is = one_on (read_set fibers at place x (Ended o) is) where
-  one_on : ((place ≡ at) × (x ≡ Ended o)) ⊎ ((place ≢ at) × (slice_get fibers place ≡ Some (Ended o))) → slice_get fibers place ≡ Some (Ended o)
-  one_on (inl mine) = absurd (other mine.1)
-  one_on (inr there) = there.1
+last_live : (fibers : List FiberState) (place : ℕ) (o : Outcome) → slice_get (fibers ++ Live ∷ []) place ≡ Some (Ended o) → slice_get fibers place ≡ Some (Ended o)
+last_live [] zero o is = absurd cc
+last_live [] (suc place) o is = absurd cc
+last_live (x ∷ xs) zero o is = is
+last_live (x ∷ xs) (suc place) o is = last_live xs place o is
 
-suspends_none : (fibers : List FiberState) (g t place : ℕ) (o : Outcome) (s : Option TrigState) → slice_get (suspended_at fibers g t s) place ≡ Some (Ended o) → slice_get fibers place ≡ Some (Ended o)
-suspends_none fibers g t place o (Some Initial) is = unended fibers (g - 1) place (Suspended t) o (λ same. cc) is
-suspends_none fibers g t place o s is = is
-
-resumes_none : (fibers : List FiberState) (place : ℕ) (o : Outcome) (s : Option TrigState) → slice_get (resumed_at fibers s) place ≡ Some (Ended o) → slice_get fibers place ≡ Some (Ended o)
-resumes_none fibers place o (Some (Awaiting (Resume h))) is = unended fibers (h - 1) place Live o (λ same. cc) is
-resumes_none fibers place o s is = is
+grown_ended : (b : Bool) (fibers : List FiberState) (place : ℕ) (o : Outcome) → slice_get (grown b fibers Live) place ≡ Some (Ended o) → slice_get fibers place ≡ Some (Ended o)
+grown_ended true fibers place o is = last_live fibers place o is
+grown_ended false fibers place o is = is
 
 -- another fiber's end, or this one's
-end_by : (w : State) (g : ℕ) (x : Outcome) (place : ℕ) (o : Outcome) → g ≢ 0 → MayAct w g → ((place ≡ g - 1) × (Ended x ≡ Ended o)) ⊎ ((place ≢ g - 1) × (slice_get w.fibers place ≡ Some (Ended o))) → EndedBy w g (End x) place o
-end_by w g x place o fiber acts (inl mine) =
-    let ended : Ended x ≡ Ended o = mine.1 in
+set_within : (fibers : List FiberState) (place : ℕ) (x s : FiberState) → slice_get (slice_set fibers place x) place ≡ Some s → x ≡ s
+set_within [] place x s is = absurd cc
+set_within (y ∷ ys) zero x s is = cc
+set_within (y ∷ ys) (suc place) x s is = set_within ys place x s is
+
+end_by : (w : State) (g : ℕ) (x : Outcome) (place : ℕ) (o : Outcome) (b : Bool) → (place == (g - 1)) ≡ b → g ≢ 0 → MayAct w g → slice_get (slice_set w.fibers (g - 1) (Ended x)) place ≡ Some (Ended o) → EndedBy w g (End x) place o
+end_by w g x place o true same fiber acts is =
+    let at : place ≡ g - 1 = grind (arith, nat_tests, same) in
+    let ended : Ended x ≡ Ended o = set_within w.fibers (g - 1) (Ended x) (Ended o) (subst (λ (k : ℕ). slice_get (slice_set w.fibers (g - 1) (Ended x)) k ≡ Some (Ended o)) at is) in
     let outcome : x ≡ o = cc in
-    here (omega (arith, mine.0, fiber)) (ap End outcome)
-end_by w g x place o fiber acts (inr other) = before other.1 (acts_not w g place o acts other.1)
+    here (omega (arith, at, fiber)) (ap End outcome)
+end_by w g x place o false apart fiber acts is =
+    let other : place ≢ g - 1 = grind (arith, nat_tests, apart) in
+    let was : slice_get w.fibers place ≡ Some (Ended o) = sym (slice_get-set_other w.fibers (g - 1) place (Ended x) other) ∙ is in
+    before was (acts_not w g place o acts was)
 
-ended_in : (w : State) (g : ℕ) (call : Call) (place : ℕ) (o : Outcome) → Allowed w g call → slice_get (fibers_by w g call) place ≡ Some (Ended o) → EndedBy w g call place o
-ended_in w g (Arm t action) place o allowed is =
-    let was = suspends_none w.fibers g t place o (slice_get w.triggers t) is in
+ended_by : (w : State) (g : ℕ) (call : Call) (place : ℕ) (o : Outcome) → Allowed w g call → slice_get (fibers_after w g call) place ≡ Some (Ended o) → EndedBy w g call place o
+ended_by w g (Fork text value) place o allowed is =
+    let was = grown_ended (has_room w) w.fibers place o is in
     before was (acts_not w g place o allowed.caller was)
-ended_in w g (call.Signal t) place o allowed is =
-    let was = resumes_none w.fibers place o (slice_get w.triggers t) is in
-    before was (acts_not w g place o allowed.caller was)
-ended_in w g (Fork text value) place o allowed is =
-    let was = slice_get-one_less (has_room w) w.fibers Live (Ended o) place (λ same. cc) is in
-    before was (acts_not w g place o allowed.caller was)
-ended_in w g (End x) place o allowed is = end_by w g x place o (not_clock w g (End x) allowed tt) allowed.caller (read_set w.fibers (g - 1) place (Ended x) (Ended o) is)
-ended_in w g call place o allowed is = before is (acts_not w g place o allowed.caller is)
-
-ended_by : (w : State) (g : ℕ) (call : Call) (place : ℕ) (o : Outcome) → Allowed w g call → slice_get (after w g call).fibers place ≡ Some (Ended o) → EndedBy w g call place o
-ended_by w g call place o allowed is = ended_in w g call place o allowed (ap (λ (fs : List FiberState). slice_get fs place) (sym (fibers-after w g call)) ∙ is)
+ended_by w g (End x) place o allowed is = end_by w g x place o (place == (g - 1)) refl (not_clock w g (End x) allowed tt) allowed.caller is
+ended_by w g _ place o allowed is = before is (acts_not w g place o allowed.caller is)
 
 -- ---- the log
 
@@ -115,16 +105,13 @@ data EndsFrom (w : State) (hs : List Happened) (place : ℕ) (o : Outcome) : Typ
 one_before : (h : Happened) (hs : List Happened) (o : Outcome) → EndsSo hs o → EndsSo (h ∷ hs) o
 one_before h hs o ends = record { front = h ∷ ends.front; last = ends.last; is = ap (λ (zs : List Happened). h ∷ zs) ends.is; call = ends.call }
 
-unlogged : (h : Happened) (f : ℕ) → h.entry.fiber ≢ f → is_logged f h ≡ false
-unlogged h f other = rw (not_same h.entry.fiber f (h.entry.fiber == f) refl other) refl
-
 module _ (w : State) (h : Happened) (hs : List Happened) (place : ℕ) (o : Outcome) where
   behind : (b : Bool) → is_logged (place + 1) h ≡ b → EndsSo (log hs (place + 1)) o → EndsFrom w (h ∷ hs) place o
   behind true mine ends = since (rw mine (one_before h (log hs (place + 1)) o ends))
   behind false other ends = since (rw other ends)
 
   now : EndedBy w h.entry.fiber h.entry.call place o → log hs (place + 1) ≡ [] → EndsFrom w (h ∷ hs) place o
-  now (before was other) none = long_ago was (rw (unlogged h (place + 1) other) none)
+  now (before was other) none = long_ago was (rw (not_logged h (place + 1) other) none)
   now (here mine call) none =
       let within : is_turn h.entry.call ≡ false = ap is_turn call in
       since (rw (logged h (place + 1) mine within) (record { front = []; last = h; is = ap (λ (zs : List Happened). h ∷ zs) none; call = call }))

@@ -13,7 +13,7 @@ use Rattle.pic_machine.specs.declared.entry.Reply.{Reply}
 use Rattle.pic_machine.specs.declared.entry.Reply.TheVariants.{Full, Made}
 use Rattle.pic_machine.specs.Happened.{Happened}
 use Rattle.pic_machine.specs.State.{State, owed_of}
-use Rattle.pic_machine.specs.Step.{MayAct, after, fork_reply, has_room, reply_of}
+use Rattle.pic_machine.specs.Step.{MayAct, after, fibers_after, fork_reply, has_room, reply_of}
 use Rattle.pic_machine.specs.History.{BirthFits, Origin, Follows, IsLegal, birth_among, birth_in, forked, made_birth, or_later, world, world_from}
 use Rattle.pic_machine.specs.Log.{Others, log}
 use Rattle.pic_machine.proofs.Histories.{world-push, world_from-append}
@@ -59,32 +59,31 @@ no_duty origin hs g legal fresh none = owed_stays origin [] hs g legal (no_entry
 
 -- ---- births
 
--- a reply that something was made is that of a fork, and names the newest fiber
-record IsNewest (w : State) (f : ℕ) (call : Call) (n : ℕ) : Type 0 where
+-- where a birth stands beside an entry, the entry is a fork, and names the newest fiber
+record IsNewest (w : State) (call : Call) (n : ℕ) : Type 0 where
   number : n ≡ length w.fibers + 1
-  there : length (after w f call).fibers ≡ n
+  there : (f : ℕ) → length (fibers_after w f call) ≡ n
 
-forked_newest : (w : State) (f text value n : ℕ) (b : Bool) → has_room w ≡ b → Made n ≡ fork_reply w → IsNewest w f (Fork text value) n
-forked_newest w f text value n true room is =
+forked_newest : (w : State) (text value n : ℕ) (b : Bool) → has_room w ≡ b → Made n ≡ fork_reply w → IsNewest w (Fork text value) n
+forked_newest w text value n true room is =
     let made : Made n ≡ Made (length w.fibers + 1) = is ∙ (rw room refl) in
     let number : n ≡ length w.fibers + 1 = cc in
-    record { number = number; there = rw room (length-append w.fibers (Live ∷ []) ∙ sym number) }
-forked_newest w f text value n false room is = let full : Made n ≡ Full = is ∙ (rw room refl) in absurd cc
+    record { number = number; there = λ f. rw room (length-append w.fibers (Live ∷ []) ∙ sym number) }
+forked_newest w text value n false room is = let full : Made n ≡ Full = is ∙ (rw room refl) in absurd cc
 
--- beside an entry that made no fiber stands no birth
-newest : (w : State) (f n : ℕ) (call : Call) (birth : Birth) → Made n ≡ reply_of w f call → BirthFits w call (Made n) (Some birth) → IsNewest w f call n
-newest w f n (Fork text value) birth is fits = forked_newest w f text value n (has_room w) refl is
-newest w f n call birth is fits = let none : Some birth ≡ None = fits in absurd cc
+newest : (w : State) (f n : ℕ) (call : Call) (birth : Birth) → Made n ≡ reply_of w f call → BirthFits w call (Made n) (Some birth) → IsNewest w call n
+newest w f n (Fork text value) birth is fits = forked_newest w text value n (has_room w) refl is
+newest w f n _ birth is fits = absurd cc
 
-newest_of : (origin : Origin) (hs : List Happened) (h : Happened) (n : ℕ) (birth : Birth) → Follows origin hs h → h.entry.reply ≡ Made n → h.birth ≡ Some birth → IsNewest (world origin hs) h.entry.fiber h.entry.call n
-newest_of origin hs h n birth follows made born =
-    let fits : BirthFits (world origin hs) h.entry.call (Made n) h.birth = subst (λ (r : Reply). BirthFits (world origin hs) h.entry.call r h.birth) made follows.birth in
-    newest (world origin hs) h.entry.fiber n h.entry.call birth (sym made ∙ follows.reply) (subst (BirthFits (world origin hs) h.entry.call (Made n)) born fits)
+newest_of : (origin : Origin) (front : List Happened) (h : Happened) (n : ℕ) (birth : Birth) → Follows origin front h → h.entry.reply ≡ Made n → h.birth ≡ Some birth → IsNewest (world origin front) h.entry.call n
+newest_of origin front h n birth follows made born =
+    let w = world origin front in
+    newest w h.entry.fiber n h.entry.call birth (sym made ∙ follows.reply)
+    (subst (λ (b : Option Birth). BirthFits w h.entry.call (Made n) b) born (subst (λ (r : Reply). BirthFits w h.entry.call r h.birth) made follows.birth))
 
 no_birth_of : (reply : Reply) (birth : Option Birth) (g : ℕ) → ((n : ℕ) (b : Birth) → reply ≡ Made n → birth ≡ Some b → n ≢ g) → made_birth reply birth g ≡ None
-no_birth_of (Made n) None g other = refl
-no_birth_of (Made n) (Some birth) g other = rw (not_same n g (n == g) refl (other n birth refl refl)) refl
-no_birth_of reply birth g other = refl
+no_birth_of (Made n) (Some b) g other = rw (not_same n g (n == g) refl (other n b refl refl)) refl
+no_birth_of _ _ g other = refl
 
 births_from : (origin : Origin) (front back : List Happened) (g : ℕ) → IsLegal origin (front ++ back) → IsFresh (world origin (front ++ back)) g → birth_among back g ≡ None
 births_from origin front [] g legal fresh = refl
@@ -93,8 +92,7 @@ births_from origin front (h ∷ back) g legal fresh =
     let follows : Follows origin front h = legal.each front back h refl in
     let there : IsFresh (world origin (front ++ h ∷ [])) g = was_fresh origin (front ++ h ∷ []) back g (subst (λ (zs : List Happened). IsFresh (world origin zs) g) (sym assoc) fresh) in
     let other : (n : ℕ) (b : Birth) → h.entry.reply ≡ Made n → h.birth ≡ Some b → n ≢ g = λ n b made born same.
-    let new = newest_of origin front h n b follows made born in
-    let count : length (world origin (front ++ h ∷ [])).fibers ≡ n = ap (λ (w : State). length w.fibers) (world-push origin front h) ∙ new.there in
+    let count : length (world origin (front ++ h ∷ [])).fibers ≡ n = ap (λ (w : State). length w.fibers) (world-push origin front h) ∙ (newest_of origin front h n b follows made born).there h.entry.fiber in
     absurd (omega (arith, count, there, same)) in
     rw (no_birth_of h.entry.reply h.birth g other)
     (births_from origin (front ++ h ∷ []) back g (subst (IsLegal origin) (sym assoc) legal) (subst (λ (zs : List Happened). IsFresh (world origin zs) g) (sym assoc) fresh))
@@ -109,8 +107,7 @@ clock_unborn origin front (h ∷ back) legal =
     let assoc : (front ++ h ∷ []) ++ back ≡ front ++ h ∷ back = append_assoc front (h ∷ []) back in
     let follows : Follows origin front h = legal.each front back h refl in
     let other : (n : ℕ) (b : Birth) → h.entry.reply ≡ Made n → h.birth ≡ Some b → n ≢ 0 = λ n b made born same.
-    let new = newest_of origin front h n b follows made born in
-    absurd (omega (arith, new.number, same)) in
+    absurd (omega (arith, (newest_of origin front h n b follows made born).number, same)) in
     rw (no_birth_of h.entry.reply h.birth 0 other) (clock_unborn origin (front ++ h ∷ []) back (subst (IsLegal origin) (sym assoc) legal))
 
 unborn_has_none : {A : Type 0} (found : Option Birth) (birth : Birth) → found ≡ None → found ≡ Some birth → A

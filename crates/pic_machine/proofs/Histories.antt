@@ -54,7 +54,7 @@ IsLegal-push origin hs h legal follows = record { each = at_push (Follows origin
 -- beside a call that makes no fiber stands no birth
 pub BirthFits-none : (w : State) (c : Call) (reply : Reply) → MakesNoFiber c → BirthFits w c reply None
 BirthFits-none w (call.Fork text value) reply none = absurd none
-BirthFits-none w c reply none = refl
+BirthFits-none w _ reply none = refl
 
 -- the front of a legal history is legal
 pub IsLegal-front : (origin : Origin) (hs more : List Happened) → IsLegal origin (hs ++ more) → IsLegal origin hs
@@ -72,7 +72,7 @@ pub visible-append : (hs more : List Happened) → visible (hs ++ more) ≡ visi
 visible-append hs more = ap (map (λ (h : Happened). h.entry)) (filter-append is_visible hs more) ∙ map-append (λ (h : Happened). h.entry) (filter is_visible hs) (filter is_visible more)
 
 pub visible-push : (hs : List Happened) (h : Happened) → is_hidden h.entry.call h.entry.reply ≡ false → visible (hs ++ h ∷ []) ≡ visible hs ++ h.entry ∷ []
-visible-push hs h within = visible-append hs (h ∷ []) ∙ rw within refl
+visible-push hs h shown = visible-append hs (h ∷ []) ∙ rw shown refl
 
 pub log-push : (hs : List Happened) (h : Happened) (f : ℕ) → log (hs ++ h ∷ []) f ≡ log hs f ++ log (h ∷ []) f
 log-push hs h f = filter-append (is_logged f) hs (h ∷ [])

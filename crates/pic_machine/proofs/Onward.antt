@@ -15,6 +15,7 @@ use Rattle.pic_machine.proofs.Standing.{acts_stays, birth_stays, log_stays, owed
 
 -- the port went on to this front, and is the same port
 pub record Onward {S : Type 0} (old new : Sight S) (others : List Happened) (h : Happened) : Type 0 where
+  pub board : new.board ≡ old.board
   pub origin : new.origin ≡ old.origin
   pub share : new.share ≡ old.share
   pub alone : new.alone ≡ old.alone
@@ -32,6 +33,7 @@ module _ {S : Type 0} (old new : Sight S) (others : List Happened) (h : Happened
 
   pub onward_later : Onward old new others h → Later old new (others ++ h ∷ [])
   onward_later on = record {
+    board = on.board;
     origin = on.origin;
     share = on.share;
     alone = on.alone;
@@ -125,7 +127,7 @@ module _ {S : Type 0} (old new : Sight S) (before now : Carry S) where
 -- ---- a call that changed nothing
 
 pub later_same : {S : Type 0} (p : Sight S) → Later p p []
-later_same p = record { origin = refl; share = refl; alone = refl; front = sym (append-nil p.front); steady = omega arith }
+later_same p = record { board = refl; origin = refl; share = refl; alone = refl; front = sym (append-nil p.front); steady = omega arith }
 
 -- the port is as it was
 pub kept_same : {S : Type 0} (p : Sight S) → IsLegal p.origin p.front → Kept p p

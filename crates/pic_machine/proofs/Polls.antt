@@ -8,7 +8,7 @@ use Rattle.pic_machine.specs.declared.port.PortFault.TheVariants as fault
 use Rattle.pic_machine.specs.Log.{log}
 use Rattle.pic_machine.specs.Order.{GoesOn, readied}
 use Rattle.pic_machine.specs.Sight.{Carry, Sight, Holds, IsSame, fiber_of}
-use Rattle.pic_machine.specs.Lending.{Kept, Refuses, Spared}
+use Rattle.pic_machine.specs.Lending.{Calm, Kept, Refuses, Spared}
 use Rattle.pic_machine.specs.Turning.{Adds, EndsSo, Grew, Polled, Stopped, Went, YieldsSo}
 use Rattle.pic_machine.proofs.Lists.{each-append}
 use Rattle.pic_machine.proofs.Onward.{later_same, spared}
@@ -49,17 +49,18 @@ module _ {S : Type 0} (p q r : Sight S) (a b : Carry S) (start now later : Optio
 
 module _ {B S : Type 0} (seen : B → Carry S) (fits : B → List Happened → Type 0) (p q r : Sight S) (a : Carry S) (start now later : Option (List ℕ)) where
   -- the rest of the turn answers so
-  pub polled_after : (answer : Turn B) (b : Carry S) → Went p q a b start now → Polled answer seen fits q r b now later → Polled answer seen fits p r a start later
-  polled_after Ended b before rest = stopped_after p q r a b start now later (λ h. EndsSo h.entry.call) before rest
-  polled_after Yielded b before rest = stopped_after p q r a b start now later (λ h. YieldsSo h.entry.call) before rest
-  polled_after (Again back) b before rest = (
+  pub polled_after : (answer : Turn B) (b : Carry S) → Went p q a b start now → Calm p q → Polled answer seen fits q r b now later → Polled answer seen fits p r a start later
+  polled_after Ended b before calm rest = stopped_after p q r a b start now later (λ h. EndsSo h.entry.call) before rest
+  polled_after Yielded b before calm rest = stopped_after p q r a b start now later (λ h. YieldsSo h.entry.call) before rest
+  polled_after (Again back) b before calm rest = (
     Went-trans p q r a b (seen back) start now later before rest.0,
     subst (λ (n : ℕ). fits back (log r.front n)) (same_fiber a b before.number) rest.1,
     rose_from p.contention q.contention r.contention before.grew.later.steady rest.2,
   )
-  polled_after (Memory back) b before rest = (
+  polled_after (Memory back) b before calm rest = (
     Went-trans p q r a b (seen back) start now later before rest.0,
     subst (λ (n : ℕ). fits back (log r.front n)) (same_fiber a b before.number) rest.1,
+    rest.2 ∙ calm,
   )
 
 module _ {B S : Type 0} (seen : B → Carry S) (fits : B → List Happened → Type 0) (p q : Sight S) (a : Carry S) (line : Option (List ℕ)) (back : B) where
@@ -70,4 +71,4 @@ module _ {B S : Type 0} (seen : B → Carry S) (fits : B → List Happened → T
   polled_refused fault.Again answer refused again memory fitting =
       subst (λ (t : Turn B). Polled t seen fits p q a line line) (sym (again refl)) (went_spared p q a (seen back) line refused.0, fitting, refused.1)
   polled_refused fault.Memory answer refused again memory fitting =
-      subst (λ (t : Turn B). Polled t seen fits p q a line line) (sym (memory (λ same. cc))) (went_spared p q a (seen back) line refused.0, fitting)
+      subst (λ (t : Turn B). Polled t seen fits p q a line line) (sym (memory (λ same. cc))) (went_spared p q a (seen back) line refused.0, fitting, refused.1)

@@ -1,4 +1,4 @@
--- How a turn is put together, call by call, and how the turns of a port that is alone make the FIFO order.
+-- How a turn is put together, call by call, and how the turns of a port that is alone stand in order.
 use Rattle.std.proofs.Common.{◌≡◌, ℕ, ◌≤◌, inl, inr, true, false, Option, Some, None, List, [], ◌∷◌, ◌++◌, refl, sym, ap, subst, ◌∙◌, append_assoc, append-nil, arith}
 use Rattle.std.proofs.lemmas.Grind.{flat_map-append}
 use Rattle.pic_machine.specs.declared.entry.Call.TheVariants as call
@@ -6,7 +6,7 @@ use Rattle.pic_machine.specs.declared.entry.Reply.TheVariants as reply
 use Rattle.pic_machine.specs.Happened.{Happened}
 use Rattle.pic_machine.specs.History.{event}
 use Rattle.pic_machine.specs.Log.{Others, is_turn, log}
-use Rattle.pic_machine.specs.Order.{GoesOn, InFifo, IsOwn, IsTurn, Stops, readied, readied_by, turn}
+use Rattle.pic_machine.specs.Order.{GoesOn, InOrder, IsOwn, IsTurn, Stops, readied, readied_by, turn}
 use Rattle.pic_machine.specs.Sight.{Carry, Sight, Holds, fiber_of}
 use Rattle.pic_machine.specs.Lending.{Began, Grown, Later, Lent, Made, Rose, Spared}
 use Rattle.pic_machine.specs.Turning.{Adds, Grew, Stopped, Went}
@@ -38,6 +38,7 @@ Adds-trans a (Some y) (Some z) xs ys p q =
 
 pub Later-trans : {S : Type 0} (a b c : Sight S) (xs ys : List Happened) → Later a b xs → Later b c ys → Later a c (xs ++ ys)
 Later-trans a b c xs ys p q = record {
+  board = q.board ∙ p.board;
   origin = q.origin ∙ p.origin;
   share = q.share ∙ p.share;
   alone = q.alone ∙ p.alone;
@@ -49,7 +50,7 @@ Later-trans a b c xs ys p q = record {
 pub grew_same : {S : Type 0} (a : Sight S) (f : ℕ) → Grew a a f []
 grew_same a f = record {
   more = [];
-  later = record { origin = refl; share = refl; alone = refl; front = sym (append-nil a.front); steady = omega arith };
+  later = record { board = refl; origin = refl; share = refl; alone = refl; front = sym (append-nil a.front); steady = omega arith };
   own = tt;
   log = sym (append-nil (log a.front f));
   alone = λ alone. refl;
@@ -150,19 +151,19 @@ module _ {S : Type 0} (p q r : Sight S) (a b : Carry S) (start now later : Optio
 
 -- ---- the order of turns
 
--- on a port that is alone, a claim and the turn that follows are the next turn in the FIFO order, and the
--- line, which was the rest of the ready list, is the ready list again
-pub turn_in_order : {S : Type 0} (p q r : Sight S) (f : ℕ) (ready : List ℕ) (line : List ℕ) (How : Happened → Type 0) → p.alone ≡ true → InFifo p.front (f ∷ ready) → Began p q (event f call.Turn reply.Plain)
-    → Stopped q r f (Some ready) (Some line) How → InFifo r.front line
-turn_in_order p q r f ready line How alone fifo began stopped =
+-- on a port that is alone, a claim and the turn that follows are the next turn in the order, and the line,
+-- which was the rest of the ready list, is the ready list again
+pub turn_in_order : {S : Type 0} (Picks : List ℕ → Type 0) (p q r : Sight S) (f : ℕ) (before behind line : List ℕ) (How : Happened → Type 0) → p.alone ≡ true → InOrder Picks p.front (before ++ f ∷ behind) → Picks before
+    → Began p q (event f call.Turn reply.Plain) → Stopped q r f (Some (before ++ behind)) (Some line) How → InOrder Picks r.front line
+turn_in_order Picks p q r f before behind line How alone order picks began stopped =
     let own = stopped.going ++ stopped.final ∷ [] in
     let first : q.front ≡ p.front ++ event f call.Turn reply.Plain ∷ [] = began.later.front ∙ ap (λ (zs : List Happened). p.front ++ (zs ++ event f call.Turn reply.Plain ∷ [])) (began.none alone) in
     let rest : stopped.grew.more ≡ own = stopped.grew.alone (began.later.alone ∙ alone) in
     let front : r.front ≡ p.front ++ event f call.Turn reply.Plain ∷ own =
     stopped.grew.later.front ∙ (ap (λ (zs : List Happened). q.front ++ zs) rest ∙ (ap (λ (zs : List Happened). zs ++ own) first ∙ append_assoc p.front (event f call.Turn reply.Plain ∷ []) own)) in
     let is : IsTurn f own = record { going = stopped.going; final = stopped.final; is = refl; own = stopped.grew.own; on = stopped.on; last = stopped.last } in
-    let told : Some ready ≡ Some stopped.line.0 = stopped.line.1 in
-    let same : ready ≡ stopped.line.0 = cc in
-    let lines : line ≡ ready ++ readied own = stopped.line.2 ∙ ap (λ (w : List ℕ). w ++ readied own) (sym same) in
-    subst (λ (zs : List Happened). InFifo zs line) (sym front)
-    (subst (λ (w : List ℕ). InFifo (p.front ++ event f call.Turn reply.Plain ∷ own) w) (sym lines) (turn own fifo is))
+    let told : Some (before ++ behind) ≡ Some stopped.line.0 = stopped.line.1 in
+    let same : before ++ behind ≡ stopped.line.0 = cc in
+    let lines : line ≡ (before ++ behind) ++ readied own = stopped.line.2 ∙ ap (λ (w : List ℕ). w ++ readied own) (sym same) in
+    subst (λ (zs : List Happened). InOrder Picks zs line) (sym front)
+    (subst (λ (w : List ℕ). InOrder Picks (p.front ++ event f call.Turn reply.Plain ∷ own) w) (sym lines) (turn before behind own order picks is))

@@ -1,5 +1,6 @@
 -- How computations were completed, as entries tell.
-use Rattle.std.specs.Prelude.{◌≡◌, ℕ, ◌==◌, if◌then◌else◌, Option, Some, None, List, [], ◌∷◌, slice_get}
+use Rattle.std.specs.Prelude.{ℕ, ◌==◌, if◌then◌else◌, Option, Some, None, List, [], ◌∷◌}
+use Rattle.pic_base.specs.declared.outcome.Outcome.{Outcome}
 use Rattle.pic_machine.specs.declared.entry.Call.{Call}
 use Rattle.pic_machine.specs.declared.entry.Call.TheVariants.{Complete}
 use Rattle.pic_machine.specs.declared.entry.CompleteReply.TheVariants.{Won}
@@ -26,12 +27,12 @@ abbrev pub completion : List Entry → ℕ → Option Completion
 completion [] c = None
 completion (e ∷ es) c = first_of (completion_at c e.fiber e.call e.reply) (completion es c)
 
--- the computation c runs
-pub record IsRunning (comps : List CompState) (c : ℕ) : Type 0 where
-  pub triggers : List ℕ
-  pub state : slice_get comps c ≡ Some (Running triggers)
+-- the outcome of a computation, once it has one
+abbrev pub outcome_of : CompState → Option Outcome
+outcome_of (Running triggers) = None
+outcome_of (Done outcome) = Some outcome
 
--- the computation c stands as one does that was completed so, or not at all
-abbrev pub StandsSo : List CompState → ℕ → Option Completion → Type 0
-StandsSo comps c None = IsRunning comps c
-StandsSo comps c (Some completed) = slice_get comps c ≡ Some (Done completed.outcome)
+-- the outcome that a completion gave, if there was one
+abbrev pub outcome_by : Option Completion → Option Outcome
+outcome_by None = None
+outcome_by (Some completed) = Some completed.outcome

@@ -1,5 +1,5 @@
 -- What duties ask of the fiber that owes them, and what is left of them after a call.
-use Rattle.std.specs.Prelude.{◌≡◌, Option, Some, List, [], ◌∷◌, ⊤}
+use Rattle.std.specs.Prelude.{◌≡◌, Bool, true, false, Option, Some, List, [], ◌∷◌, ⊤}
 use Rattle.pic_base.specs.declared.duty.Duty.{Duty}
 use Rattle.pic_base.specs.declared.duty.Duty.TheVariants.{Signal, Follow, Cancel, Return}
 use Rattle.pic_base.specs.declared.outcome.Outcome.TheVariants.{Returned, Cancelled}
@@ -25,6 +25,12 @@ DutiesAllow [] call = ⊤
 DutiesAllow (duty ∷ duties) Turn = ⊤
 DutiesAllow (duty ∷ duties) (Look t) = ⊤
 DutiesAllow (duty ∷ duties) call = Fulfils duty call
+
+-- a call that is made while something is owed fulfils the first duty, unless it begins a turn
+abbrev pub is_owing : List Duty → Call → Bool
+is_owing [] call = false
+is_owing (duty ∷ duties) Turn = false
+is_owing (duty ∷ duties) call = true
 
 -- the clock makes nothing but what it owes
 abbrev pub ClockMakes : List Duty → Call → Type 0

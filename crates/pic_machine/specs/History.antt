@@ -1,16 +1,17 @@
 -- Histories of the machine: lists of what happened, and which of them are legal.
-use Rattle.std.specs.Prelude.{◌≡◌, ℕ, ◌<◌, ◌==◌, if◌then◌else◌, ◌⊎◌, ⊤, Option, Some, None, List, [], ◌∷◌, ◌++◌, length}
+use Rattle.std.specs.Prelude.{◌≡◌, ℕ, ◌<◌, ◌==◌, Bool, false, if◌then◌else◌, ◌⊎◌, ⊤, Option, Some, None, List, [], ◌∷◌, ◌++◌, length}
 use Rattle.std.specs.List.{AllByRecursion}
 use Rattle.pic_machine.specs.declared.birth.Birth.{Birth}
 use Rattle.pic_machine.specs.declared.entry.Call.{Call}
 use Rattle.pic_machine.specs.declared.entry.Call.TheVariants.{NewTrigger, NewPlace, Arm, Attach, Fork}
 use Rattle.pic_machine.specs.declared.entry.Reply.{Reply}
+use Rattle.pic_machine.specs.declared.entry.AttachReply.TheVariants as attach
 use Rattle.pic_machine.specs.declared.entry.Reply.TheVariants as reply
 use Rattle.pic_machine.specs.declared.entry.Reply.TheVariants.{Made}
-use Rattle.pic_machine.specs.declared.entry.AttachReply.TheVariants as attach
+use Rattle.pic_machine.specs.Duty.{is_owing}
 use Rattle.pic_machine.specs.Happened.{Happened}
 use Rattle.pic_machine.specs.declared.world.Start.{Start}
-use Rattle.pic_machine.specs.State.{State, world_at}
+use Rattle.pic_machine.specs.State.{State, owed_of, world_at}
 use Rattle.pic_machine.specs.Step.{Allowed, after, reply_of}
 
 -- where a history begins: the world before its first entry, and the birth of main
@@ -18,22 +19,24 @@ pub record Origin : Type 0 where
   pub world : State
   pub main : Birth
 
--- main has the start's text and is handed 0, and its current computation is the root
-abbrev pub origin_of : Start → Origin
-origin_of start = record {
-  world = world_at start;
-  main = record { text = start.text; value = 0; current = 0 };
-}
+-- the start's world, and main as it was born
+abbrev pub origin_of : Start → Birth → Origin
+origin_of start main = record { world = world_at start; main = main }
 
--- an entry that made no fiber
+-- an entry that made no fiber, of a fiber that owes nothing
 abbrev pub event : ℕ → Call → Reply → Happened
-event f call reply = record { entry = record { fiber = f; call = call; reply = reply }; birth = None }
+event f call reply = record { entry = record { fiber = f; call = call; reply = reply }; birth = None; owing = false }
 
--- the entry by which fiber f made fiber g, with the birth of g beside it
+-- the same of a fiber that may owe something
+abbrev pub happening : Bool → ℕ → Call → Reply → Happened
+happening owing f call reply = record { entry = record { fiber = f; call = call; reply = reply }; birth = None; owing = owing }
+
+-- the entry by which fiber f, which owes nothing, made fiber g, with the birth of g beside it
 abbrev pub forked : ℕ → ℕ → Birth → Happened
 forked f g birth = record {
   entry = record { fiber = f; call = Fork birth.text birth.value; reply = Made g };
   birth = Some birth;
+  owing = false;
 }
 
 -- the world that some entries lead to
@@ -81,12 +84,13 @@ abbrev pub BirthFits : State → Call → Reply → Option Birth → Type 0
 BirthFits w (Fork text value) (Made g) birth = IsBirthOf w text value birth
 BirthFits w _ _ birth = birth ≡ None
 
--- what may follow a history: an entry that its fiber may make there, with the machine's reply, and
--- with the birth that belongs beside it
+-- what may follow a history: an entry that its fiber may make there, with the machine's reply, with the
+-- birth that belongs beside it, and with the mark of what its fiber owes there
 pub record Follows (origin : Origin) (hs : List Happened) (h : Happened) : Type 0 where
   pub may : MayMake origin hs h.entry.fiber h.entry.call
   pub reply : h.entry.reply ≡ reply_of (world origin hs) h.entry.fiber h.entry.call
   pub birth : BirthFits (world origin hs) h.entry.call h.entry.reply h.birth
+  pub owing : h.owing ≡ is_owing (owed_of (world origin hs) h.entry.fiber) h.entry.call
 
 -- each entry may follow those before it
 pub record IsLegal (origin : Origin) (hs : List Happened) : Type 0 where

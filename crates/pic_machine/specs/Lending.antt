@@ -8,7 +8,11 @@ use Rattle.pic_machine.specs.declared.port.PortFault.{PortFault}
 use Rattle.pic_machine.specs.declared.port.PortFault.TheVariants.{Full, Again, Memory}
 use Rattle.pic_machine.specs.declared.port.ClaimRefusal.{ClaimRefusal}
 use Rattle.pic_machine.specs.declared.port.ClaimRefusal.TheVariants as claim
-use Rattle.pic_machine.specs.History.{IsLegal, event}
+use Rattle.pic_machine.specs.declared.port.ParkRefusal.{ParkRefusal}
+use Rattle.pic_machine.specs.declared.port.ParkRefusal.TheVariants as park
+use Rattle.pic_machine.specs.declared.entry.ArmReply.TheVariants as arm
+use Rattle.pic_machine.specs.Duty.{is_owing}
+use Rattle.pic_machine.specs.History.{IsLegal, event, happening}
 use Rattle.pic_machine.specs.Log.{Others}
 use Rattle.pic_machine.specs.Sight.{Carry, Sight, Notes, IsSame, Holds, fiber_of}
 
@@ -16,6 +20,7 @@ use Rattle.pic_machine.specs.Sight.{Carry, Sight, Notes, IsSame, Holds, fiber_of
 
 -- the port has seen these entries more, and is the same port
 pub record Later {S : Type 0} (old new : Sight S) (more : List Happened) : Type 0 where
+  pub board : new.board ≡ old.board
   pub origin : new.origin ≡ old.origin
   pub share : new.share ≡ old.share
   pub alone : new.alone ≡ old.alone
@@ -89,6 +94,11 @@ pub record Lent {S : Type 0} (old new : Sight S) (before now : Carry S) (h : Hap
 abbrev pub Called : {S : Type 0} → Sight S → Sight S → Carry S → Carry S → Call → Reply → Type 0
 Called old new before now call reply = Lent old new before now (event (fiber_of before) call reply)
 
+-- the same of a call that a duty may ask for: the entry has the mark where the body owes something
+abbrev pub Answered : {S : Type 0} → Sight S → Sight S → Carry S → Carry S → Call → Reply → Type 0
+Answered old new before now call reply =
+    Lent old new before now (happening (is_owing before.owes call) (fiber_of before) call reply)
+
 -- the body is out still, and no entry was made for it
 pub record Spared {S : Type 0} (old new : Sight S) (before now : Carry S) : Type 0 where
   pub kept : Kept old new
@@ -111,6 +121,14 @@ abbrev pub NotClaimed : {S : Type 0} → ClaimRefusal → Sight S → Sight S �
 NotClaimed claim.NotReady old new found = Calm old new × found
 NotClaimed claim.Again old new found = Rose old.contention new.contention
 NotClaimed claim.Memory old new found = Calm old new
+
+-- a fiber wasn't suspended: the entry says that the trigger is signalled or awaited already, or the call was
+-- refused
+abbrev pub NotParked : {S : Type 0} → ParkRefusal → Sight S → Sight S → Carry S → Carry S → Call → Type 0
+NotParked park.Signalled old new before now call = Called old new before now call (reply.Armed arm.Signalled)
+NotParked park.Taken old new before now call = Called old new before now call (reply.Armed arm.Taken)
+NotParked park.Again old new before now call = Refuses Again old new before now
+NotParked park.Memory old new before now call = Refuses Memory old new before now
 
 -- a body with the same rest, in which the entry was noted beside what it has, fits the log with it
 abbrev pub FitsWith : {B S : Type 0} → (B → Carry S) → (B → B → Type 0) → (B → List Happened → Type 0) → B → List Happened → Happened → Type 0

@@ -1,13 +1,13 @@
--- The order of turns on one worker, first ready first.
+-- The order of turns on one worker.
 use Rattle.std.specs.Prelude.{◌≡◌, ℕ, Bool, true, false, List, [], ◌∷◌, ◌++◌, length, filter}
 use Rattle.std.specs.List.{AllByRecursion, flat_map}
+use Rattle.pic_base.specs.declared.action.Action.TheVariants.{Resume}
 use Rattle.pic_machine.specs.declared.entry.Call.{Call}
 use Rattle.pic_machine.specs.declared.entry.Call.TheVariants.{Turn, Yield, Arm, Signal, Fork, End}
 use Rattle.pic_machine.specs.declared.entry.Reply.{Reply}
 use Rattle.pic_machine.specs.declared.entry.Reply.TheVariants.{Plain, Made, Armed, Signalled}
 use Rattle.pic_machine.specs.declared.entry.ArmReply.TheVariants.{Set}
 use Rattle.pic_machine.specs.declared.entry.SignalReply.TheVariants.{Acted}
-use Rattle.pic_base.specs.declared.action.Action.TheVariants.{Resume}
 use Rattle.pic_machine.specs.Happened.{Happened}
 use Rattle.pic_machine.specs.History.{event}
 use Rattle.pic_machine.specs.Log.{is_turn}
@@ -35,15 +35,13 @@ Stops h = stops h.entry.call h.entry.reply ≡ true
 abbrev pub turns_over : List Happened → ℕ
 turns_over hs = length (filter (λ h. stops h.entry.call h.entry.reply) hs)
 
--- the entries that end a turn without a wait
-abbrev pub yields : Call → Bool
-yields Yield = true
-yields (End o) = true
-yields _ = false
+abbrev pub is_yield : Call → Bool
+is_yield Yield = true
+is_yield _ = false
 
--- how many of these entries do so
-abbrev pub yields_over : List Happened → ℕ
-yields_over hs = length (filter (λ h. yields h.entry.call) hs)
+-- how many of these entries are yields
+abbrev pub yields : List Happened → ℕ
+yields hs = length (filter (λ h. is_yield h.entry.call) hs)
 
 -- the entries of one turn of fiber f: its own alone, of which the last and only the last ends it
 pub record IsTurn (f : ℕ) (hs : List Happened) : Type 0 where
@@ -66,12 +64,17 @@ readied_by f _ _ = []
 abbrev pub readied : List Happened → List ℕ
 readied hs = flat_map (λ h. readied_by h.entry.fiber h.entry.call h.entry.reply) hs
 
--- the history is a list of turns, each of the fiber that was first of the ready list, and what a turn
--- makes ready goes to the list's end; beside the history stands the list as it leaves it
-pub data InFifo : List Happened → List ℕ → Type 0 where
-  begin : InFifo [] (1 ∷ [])
-  turn : {hs : List Happened} {f : ℕ} {ready : List ℕ} (own : List Happened) → InFifo hs (f ∷ ready) → IsTurn f own
-      → InFifo (hs ++ event f Turn Plain ∷ own) (ready ++ readied own)
+-- the history is a list of turns, each of a fiber of the ready list, which leaves the list, and what a turn
+-- makes ready goes to the list's end; which fiber has a turn is told by those that stand before it in the
+-- list; beside the history stands the list as it leaves it
+pub data InOrder (Picks : List ℕ → Type 0) : List Happened → List ℕ → Type 0 where
+  begin : InOrder Picks [] (1 ∷ [])
+  turn : {hs : List Happened} {f : ℕ} (before behind : List ℕ) (own : List Happened) → InOrder Picks hs (before ++ f ∷ behind) → Picks before → IsTurn f own
+      → InOrder Picks (hs ++ event f Turn Plain ∷ own) ((before ++ behind) ++ readied own)
+
+-- first ready, first run: nobody stands before the fiber that has a turn
+abbrev pub InFifo : List Happened → List ℕ → Type 0
+InFifo hs ready = InOrder (λ before. before ≡ []) hs ready
 
 pub record IsInFifoOrder (hs : List Happened) : Type 0 where
   pub ready : List ℕ

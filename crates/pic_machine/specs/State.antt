@@ -1,5 +1,5 @@
 -- The world of the machine, and the world that stands before the first entry.
-use Rattle.std.specs.Prelude.{ℕ, ◌≤◌, List, [], ◌∷◌, replicate, slice_index_or}
+use Rattle.std.specs.Prelude.{◌≡◌, ℕ, ◌≤◌, List, [], ◌∷◌, replicate, slice_index_or}
 use Rattle.pic_base.specs.declared.duty.Duty.{Duty}
 use Rattle.pic_base.specs.declared.limits.Limits.{Limits}
 use Rattle.pic_machine.specs.declared.state.CompState.{CompState}
@@ -42,3 +42,8 @@ world_at start = record {
   places = 0;
   limits = start.limits;
 }
+
+-- a world as one starts
+pub record IsStart (w : State) : Type 0 where
+  pub start : Start
+  pub is : w ≡ world_at start

@@ -1,16 +1,17 @@
 -- The step of the machine: which calls a fiber may make, the reply to each, and the world after it.
-use Rattle.std.specs.Prelude.{◌≡◌, ℕ, ◌+◌, ◌-◌, ◌<◌, nat_lt, if◌then◌else◌, ◌⊎◌, Bool, Option, Some, None, List, [], ◌∷◌, ◌++◌, length, map, reverse, slice_get, slice_set, ⊤}
+use Rattle.std.specs.Prelude.{◌≡◌, ℕ, ◌+◌, ◌-◌, ◌<◌, nat_lt, if◌then◌else◌, ◌⊎◌, Bool, true, false, Option, Some, None, List, [], ◌∷◌, ◌++◌, length, map, reverse, slice_get, slice_set, ⊤}
 use Rattle.pic_base.specs.declared.action.Action.{Action}
 use Rattle.pic_base.specs.declared.action.Action.TheVariants.{Resume}
 use Rattle.pic_base.specs.declared.duty.Duty.{Duty}
 use Rattle.pic_base.specs.declared.duty.Duty.TheVariants.{Signal}
 use Rattle.pic_base.specs.declared.outcome.Outcome.{Outcome}
+use Rattle.pic_machine.specs.declared.state.CompState.{CompState}
+use Rattle.pic_machine.specs.declared.state.CompState.TheVariants.{Running, Done}
+use Rattle.pic_machine.specs.declared.state.FiberState.{FiberState}
+use Rattle.pic_machine.specs.declared.state.FiberState.TheVariants.{Live, Suspended, Ended}
 use Rattle.pic_machine.specs.declared.state.TrigState.{TrigState}
 use Rattle.pic_machine.specs.declared.state.TrigState.TheVariants as trigger
 use Rattle.pic_machine.specs.declared.state.TrigState.TheVariants.{Initial, Awaiting}
-use Rattle.pic_machine.specs.declared.state.CompState.{CompState}
-use Rattle.pic_machine.specs.declared.state.CompState.TheVariants.{Running, Done}
-use Rattle.pic_machine.specs.declared.state.FiberState.TheVariants.{Live, Suspended, Ended}
 use Rattle.pic_machine.specs.declared.entry.Call.{Call}
 use Rattle.pic_machine.specs.declared.entry.Call.TheVariants as call
 use Rattle.pic_machine.specs.declared.entry.Call.TheVariants.{NewTrigger, NewPlace, Look, Arm, Attach, Complete, Peek, Fork, End}
@@ -128,60 +129,88 @@ abbrev pub MakesNoFiber : Call → Type 0
 MakesNoFiber (Fork text value) = ⊥
 MakesNoFiber _ = ⊤
 
--- ---- the world after
+-- ---- the world after, part by part
 
--- fiber f owes this from now on
-abbrev pub owing : State → ℕ → List Duty → State
-owing w f duties = record w { owed = slice_set w.owed f duties }
-
--- one trigger more, that nobody awaits, where there may be one
-abbrev pub with_trigger : State → State
-with_trigger w = if nat_lt (length w.triggers) w.limits.triggers then record w { triggers = w.triggers ++ Initial ∷ [] } else w
-
--- one place more, where there may be one
-abbrev pub with_place : State → State
-with_place w = if nat_lt w.places w.limits.places then record w { places = w.places + 1 } else w
-
--- fiber f waits for the trigger, where the action is its resumption
-abbrev pub waiting : State → ℕ → ℕ → Action → State
-waiting w f t (Resume g) = record w { fibers = slice_set w.fibers (f - 1) (Suspended t) }
+-- the list with one thing more at its end, where it may grow
+abbrev pub grown : {A : Type 0} → Bool → List A → A → List A
+grown true xs x = xs ++ x ∷ []
+grown false xs x = xs
 
 -- an initial trigger is armed; any other stays as it is
-abbrev pub with_action : State → ℕ → ℕ → Action → Option TrigState → State
-with_action w f t action (Some Initial) = waiting (record w { triggers = slice_set w.triggers t (Awaiting action) }) f t action
-with_action w f t action _ = w
+abbrev pub with_action : List TrigState → ℕ → Action → Option TrigState → List TrigState
+with_action triggers t action (Some Initial) = slice_set triggers t (Awaiting action)
+with_action triggers t action _ = triggers
 
--- the signal acts for whoever awaited the trigger: a fiber that was suspended at it is live again
-abbrev pub acted : State → Option TrigState → State
-acted w (Some (Awaiting (Resume g))) = record w { fibers = slice_set w.fibers (g - 1) Live }
-acted w _ = w
+-- a trigger is made where there may be one more, is armed, or is signalled once and for all
+abbrev pub triggers_after : State → Call → List TrigState
+triggers_after w NewTrigger = grown (nat_lt (length w.triggers) w.limits.triggers) w.triggers Initial
+triggers_after w (Arm t action) = with_action w.triggers t action (slice_get w.triggers t)
+triggers_after w (call.Signal t) = slice_set w.triggers t trigger.Signalled
+triggers_after w _ = w.triggers
+
+-- one place more, where there may be one
+abbrev pub places_after : State → Call → ℕ
+places_after w NewPlace = if nat_lt w.places w.limits.places then w.places + 1 else w.places
+places_after w _ = w.places
 
 -- the trigger is attached to a running computation, as the last one; a completed one stays as it is
-abbrev pub with_attached : State → ℕ → ℕ → Option CompState → State
-with_attached w c t (Some (Running triggers)) = record w { comps = slice_set w.comps c (Running (triggers ++ t ∷ [])) }
-with_attached w c t _ = w
+abbrev pub with_attached : List CompState → ℕ → ℕ → Option CompState → List CompState
+with_attached comps c t (Some (Running triggers)) = slice_set comps c (Running (triggers ++ t ∷ []))
+with_attached comps c t _ = comps
 
--- the first duty is fulfilled, if there is one; a running computation is completed, and fiber f owes a
--- signal to each trigger that is attached to it, to the last one first, before all else; a completed one
--- stays as it is
-abbrev pub with_outcome : State → ℕ → ℕ → Outcome → Option CompState → State
-with_outcome w f c o (Some (Running triggers)) =
-    record (owing w f (map Signal (reverse triggers) ++ fulfilled (owed_of w f))) { comps = slice_set w.comps c (Done o) }
-with_outcome w f c o _ = owing w f (fulfilled (owed_of w f))
+-- a running computation is completed; a completed one stays as it is
+abbrev pub with_outcome : List CompState → ℕ → Outcome → Option CompState → List CompState
+with_outcome comps c o (Some (Running triggers)) = slice_set comps c (Done o)
+with_outcome comps c o _ = comps
 
--- one fiber more, live and owing nothing, where there is room
-abbrev pub with_fiber : State → State
-with_fiber w = if has_room w then record w { fibers = w.fibers ++ Live ∷ []; owed = w.owed ++ [] ∷ [] } else w
+abbrev pub comps_after : State → Call → List CompState
+comps_after w (Attach p c t) = with_attached w.comps c t (slice_get w.comps c)
+comps_after w (Complete c o) = with_outcome w.comps c o (slice_get w.comps c)
+comps_after w _ = w.comps
+
+-- fiber f waits for the trigger, where the action is its resumption
+abbrev pub waiting : List FiberState → ℕ → ℕ → Action → List FiberState
+waiting fibers f t (Resume g) = slice_set fibers (f - 1) (Suspended t)
+
+-- who arms an initial trigger with a resumption is suspended at it
+abbrev pub with_waiting : List FiberState → ℕ → ℕ → Action → Option TrigState → List FiberState
+with_waiting fibers f t action (Some Initial) = waiting fibers f t action
+with_waiting fibers f t action _ = fibers
+
+-- the signal acts for whoever awaited the trigger: a fiber that was suspended at it is live again
+abbrev pub resumed : List FiberState → Option TrigState → List FiberState
+resumed fibers (Some (Awaiting (Resume g))) = slice_set fibers (g - 1) Live
+resumed fibers _ = fibers
+
+-- a fork makes a live fiber, where there is room for one; an end ends the caller
+abbrev pub fibers_after : State → ℕ → Call → List FiberState
+fibers_after w f (Arm t action) = with_waiting w.fibers f t action (slice_get w.triggers t)
+fibers_after w f (call.Signal t) = resumed w.fibers (slice_get w.triggers t)
+fibers_after w f (Fork text value) = grown (has_room w) w.fibers Live
+fibers_after w f (End o) = slice_set w.fibers (f - 1) (Ended o)
+fibers_after w f _ = w.fibers
+
+-- who completes a running computation owes a signal to each trigger that is attached to it, to the last
+-- one first, before all else
+abbrev pub with_signals : Option CompState → List Duty → List Duty
+with_signals (Some (Running triggers)) duties = map Signal (reverse triggers) ++ duties
+with_signals _ duties = duties
+
+-- a signal, a completion and a look at a computation fulfil the first duty of the caller; a fiber that is
+-- made owes nothing
+abbrev pub owed_after : State → ℕ → Call → List (List Duty)
+owed_after w f (call.Signal t) = slice_set w.owed f (fulfilled (owed_of w f))
+owed_after w f (Complete c o) = slice_set w.owed f (with_signals (slice_get w.comps c) (fulfilled (owed_of w f)))
+owed_after w f (Peek c) = slice_set w.owed f (followed (owed_of w f) (slice_get w.comps c))
+owed_after w f (Fork text value) = grown (has_room w) w.owed []
+owed_after w f _ = w.owed
 
 abbrev pub after : State → ℕ → Call → State
-after w f NewTrigger = with_trigger w
-after w f NewPlace = with_place w
-after w f (Arm t action) = with_action w f t action (slice_get w.triggers t)
-after w f (call.Signal t) =
-    acted (record (owing w f (fulfilled (owed_of w f))) { triggers = slice_set w.triggers t trigger.Signalled }) (slice_get w.triggers t)
-after w f (Attach p c t) = with_attached w c t (slice_get w.comps c)
-after w f (Complete c o) = with_outcome w f c o (slice_get w.comps c)
-after w f (Peek c) = owing w f (followed (owed_of w f) (slice_get w.comps c))
-after w f (Fork text value) = with_fiber w
-after w f (End o) = record w { fibers = slice_set w.fibers (f - 1) (Ended o) }
-after w f _ = w
+after w f call = record {
+  triggers = triggers_after w call;
+  comps = comps_after w call;
+  fibers = fibers_after w f call;
+  owed = owed_after w f call;
+  places = places_after w call;
+  limits = w.limits;
+}

@@ -1,16 +1,17 @@
 -- What a turn of a fiber did, from a poll's beginning to its answer.
 use Rattle.std.specs.Prelude.{◌≡◌, ℕ, true, Option, Some, None, MatchOption, List, [], ◌∷◌, ◌++◌, ⊤}
 use Rattle.std.specs.List.{AllByRecursion}
+use Rattle.pic_base.specs.declared.action.Action.TheVariants.{Resume}
 use Rattle.pic_machine.specs.declared.entry.Call.{Call}
 use Rattle.pic_machine.specs.declared.entry.Call.TheVariants as call
 use Rattle.pic_machine.specs.Happened.{Happened}
 use Rattle.pic_machine.specs.declared.poller.Turn.{Turn}
-use Rattle.pic_machine.specs.declared.poller.Turn.TheVariants.{Ended, Yielded, Again, Memory}
+use Rattle.pic_machine.specs.declared.poller.Turn.TheVariants.{Ended, Yielded, Parked, Again, Memory}
 use Rattle.pic_machine.specs.History.{IsLegal}
 use Rattle.pic_machine.specs.Log.{log}
 use Rattle.pic_machine.specs.Order.{IsOwn, GoesOn, Stops, readied}
 use Rattle.pic_machine.specs.Sight.{Carry, Sight, Holds, fiber_of}
-use Rattle.pic_machine.specs.Lending.{Later, Rose}
+use Rattle.pic_machine.specs.Lending.{Calm, Later, Rose}
 
 -- a ready line got these fibers at its end, in this order; a line that tells nothing now may have lost
 -- any of them
@@ -58,12 +59,18 @@ abbrev pub YieldsSo : Call → Type 0
 YieldsSo call.Yield = ⊤
 YieldsSo _ = ⊥
 
+-- or suspends it
+abbrev pub ParksSo : Call → Type 0
+ParksSo (call.Arm trigger (Resume fiber)) = ⊤
+ParksSo _ = ⊥
+
 -- what a poll's answer says: the turn is over and the port has the body back, or it is handed back with
--- its turn under way, since another port was in the way or memory was wanted
+-- its turn under way, since another port was in the way, or since memory was wanted and nobody was in the way
 abbrev pub Polled : {B S : Type 0} → Turn B → (B → Carry S) → (B → List Happened → Type 0) → Sight S → Sight S → Carry S → Option (List ℕ) → Option (List ℕ) → Type 0
 Polled Ended seen fits old new body before now = Stopped old new (fiber_of body) before now (λ h. EndsSo h.entry.call)
 Polled Yielded seen fits old new body before now = Stopped old new (fiber_of body) before now (λ h. YieldsSo h.entry.call)
+Polled Parked seen fits old new body before now = Stopped old new (fiber_of body) before now (λ h. ParksSo h.entry.call)
 Polled (Again back) seen fits old new body before now =
     Went old new body (seen back) before now × fits back (log new.front (fiber_of body)) × Rose old.contention new.contention
 Polled (Memory back) seen fits old new body before now =
-    Went old new body (seen back) before now × fits back (log new.front (fiber_of body))
+    Went old new body (seen back) before now × fits back (log new.front (fiber_of body)) × Calm old new

@@ -9,7 +9,7 @@ use std::marker::Model;
 
 /// What a fiber owes. Contracts see it as a list, the duty that has to be fulfilled first in front.
 #[derive(Drop)]
-pub(crate) struct Duties {
+pub struct Duties {
     // The first duty stands last, where it is cheaply taken away.
     duties: Vec<Duty>,
 }
@@ -32,7 +32,7 @@ impl Duties {
     ghost use Rattle.pic_machine.specs.Step.{peeked};
 
     /// Nothing is owed.
-    pub(crate) fn none(alloc: Global) -> Duties
+    pub fn none(alloc: Global) -> Duties
         ensures { result ≡ [] }
     {
         Duties {
@@ -45,6 +45,13 @@ impl Duties {
         ensures { IsTrue result ↔ (self.now ≡ []) }
     {
         self.duties.is_empty()
+    }
+
+    /// The first duty, if there is one.
+    pub fn first(&self) -> Option<Duty>
+        ensures { result ≡ slice_get self.now 0 }
+    {
+        self.duties.last().copied()
     }
 
     /// Takes the first duty away, if there is one.

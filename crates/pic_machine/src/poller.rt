@@ -1,8 +1,8 @@
-ghost use Rattle.std.specs.Prelude.{◌≡◌, ◌≢◌, ◌+◌, ◌≤◌, List, Some};
-ghost use Rattle.pic_base.specs.declared.limits.TheConstants.{STEPS};
+ghost use Rattle.std.specs.Prelude.{◌≡◌, ◌≢◌, ◌≤◌, List, Some};
+ghost use Rattle.pic_base.specs.Steps.{most_steps};
 ghost use Rattle.pic_machine.specs.Happened.{Happened};
-ghost use Rattle.pic_machine.specs.Log.{log};
-ghost use Rattle.pic_machine.specs.Order.{yields_over};
+ghost use Rattle.pic_machine.specs.Log.{log, own};
+ghost use Rattle.pic_machine.specs.Order.{yields};
 ghost use Rattle.pic_machine.specs.Sight.{Holds, Sight, fiber_of};
 
 use crate::body::Carried;
@@ -16,6 +16,8 @@ pub enum Turn<B> {
     Ended,
     /// The fiber yielded, and is ready.
     Yielded,
+    /// The fiber is suspended at a trigger.
+    Parked,
     /// Another port was in the way.
     Again(B),
     /// Memory was wanted and there was none.
@@ -44,7 +46,7 @@ pub trait Poller<P: Port> {
     ghost polls_later: { (poller : Self) (old new : Sight P.Body.Share) → polls poller old
         → new.origin ≡ old.origin → new.share ≡ old.share → polls poller new };
 
-    // A fiber yields no more often than it has steps, and ends once.
+    // A fiber yields no more often than it has steps.
     ghost few: { (poller : Self) (body : P.Body) (log : List Happened) → (P.Body.seen body).number ≢ Some 0
-        → P.Body.fits body log → yields_over log ≤ STEPS + 1 };
+        → P.Body.fits body log → yields (own log) ≤ most_steps };
 }

@@ -1,13 +1,15 @@
-ghost use Rattle.std.specs.Prelude.{◌≡◌, ◌≢◌, ◌≤◌, ℕ, [], ◌∷◌, List, Option, None, OnOk, IfOk, IfErr};
+ghost use Rattle.std.specs.Prelude.{◌≡◌, ◌≢◌, ◌≤◌, ℕ, [], ◌∷◌, List, Option, None, OnOk, IfOk, IfErr, slice_get};
 ghost use Rattle.std.specs.Bool.{OnFalse, OnTrue};
 ghost use Rattle.pic_machine.specs.Final.{IsFinal};
 ghost use Rattle.pic_machine.specs.History.{event, forked, world};
 ghost use Rattle.pic_machine.specs.Log.{log};
-ghost use Rattle.pic_machine.specs.Sight.{CanMake, Holds, IsChild, IsSame, Sight, fiber_of, nothing};
+ghost use Rattle.pic_machine.specs.State.{IsStart};
+ghost use Rattle.pic_machine.specs.Sight.{CanMake, Holds, IsChild, IsSame, Sight, fiber_of};
 
 use crate::body::Carried;
-use crate::entry::{Call, CompleteReply, Reply};
-use pic_base::{CompNo, FiberNo, Outcome, Value};
+use crate::entry::{ArmReply, AttachReply, Call, CompleteReply, Reply, SignalReply};
+use crate::state::TrigState;
+use pic_base::{Action, CompNo, Duty, FiberNo, Outcome, PlaceNo, TriggerNo, Value};
 
 /// Why a call of a port gave up.
 #[derive(Clone, Copy, Debug, PartialEq, Eq)]
@@ -25,6 +27,17 @@ pub enum PortFault {
 pub enum ClaimRefusal {
     /// The fiber isn't ready.
     NotReady,
+    Again,
+    Memory,
+}
+
+/// Why a fiber wasn't suspended at a trigger.
+#[derive(Clone, Copy, Debug, PartialEq, Eq)]
+pub enum ParkRefusal {
+    /// The trigger is signalled.
+    Signalled,
+    /// Somebody awaits it already.
+    Taken,
     Again,
     Memory,
 }
@@ -57,7 +70,7 @@ pub trait ReadyLine {
 /// A call with a body that is out makes one entry, after any that were made on other ports, and notes
 /// it in the body; or it is refused, and the body is as before.
 pub trait Port: Drop {
-    ghost use Rattle.pic_machine.specs.Lending.{Began, Called, Calm, Faulted, FitsWith, Kept, Laid, Lent, Made, NotClaimed, Refuses, RefusesMaking};
+    ghost use Rattle.pic_machine.specs.Lending.{Answered, Began, Called, Calm, Faulted, FitsWith, Kept, Laid, Lent, Made, NotClaimed, NotParked, Refuses, RefusesMaking, Spared};
 
     type Body: Carried + Send;
 
@@ -81,10 +94,72 @@ pub trait Port: Drop {
             (Self.Body.seen body.old) (Self.Body.seen body.new)) }
         ensures rest { Self.Body.same_rest body.old body.new };
 
+    /// Makes a trigger.
+    fn new_trigger(&mut self, body: &mut Self::Body) -> Result<TriggerNo, PortFault>
+        requires { CanMake (sight self.old) (Self.Body.seen body.old) Call.NewTrigger }
+        ensures made { IfOk result (λ trigger. Called (sight self.old) (sight self.new)
+            (Self.Body.seen body.old) (Self.Body.seen body.new) Call.NewTrigger (Reply.Made trigger)) }
+        ensures none { IfErr result (λ fault. RefusesMaking fault (sight self.old) (sight self.new)
+            (Self.Body.seen body.old) (Self.Body.seen body.new) Call.NewTrigger) }
+        ensures rest { Self.Body.same_rest body.old body.new };
+
+    /// Makes a place, which one attachment can take.
+    fn new_place(&mut self, body: &mut Self::Body) -> Result<PlaceNo, PortFault>
+        requires { CanMake (sight self.old) (Self.Body.seen body.old) Call.NewPlace }
+        ensures made { IfOk result (λ place. Called (sight self.old) (sight self.new)
+            (Self.Body.seen body.old) (Self.Body.seen body.new) Call.NewPlace (Reply.Made place)) }
+        ensures none { IfErr result (λ fault. RefusesMaking fault (sight self.old) (sight self.new)
+            (Self.Body.seen body.old) (Self.Body.seen body.new) Call.NewPlace) }
+        ensures rest { Self.Body.same_rest body.old body.new };
+
+    /// Looks at a trigger.
+    fn look(&mut self, body: &mut Self::Body, trigger: TriggerNo) -> Result<TrigState, PortFault>
+        requires { CanMake (sight self.old) (Self.Body.seen body.old) (Call.Look trigger) }
+        ensures made { IfOk result (λ state. Answered (sight self.old) (sight self.new)
+            (Self.Body.seen body.old) (Self.Body.seen body.new) (Call.Look trigger) (Reply.Seen state)) }
+        ensures none { IfErr result (λ fault. Refuses fault (sight self.old) (sight self.new)
+            (Self.Body.seen body.old) (Self.Body.seen body.new)) }
+        ensures rest { Self.Body.same_rest body.old body.new };
+
+    /// Signals a trigger, and makes the fiber ready that is suspended at it.
+    fn signal(&mut self, body: &mut Self::Body, trigger: TriggerNo) -> Result<SignalReply, PortFault>
+        requires { CanMake (sight self.old) (Self.Body.seen body.old) (Call.Signal trigger) }
+        ensures made { IfOk result (λ how. Answered (sight self.old) (sight self.new)
+            (Self.Body.seen body.old) (Self.Body.seen body.new)
+            (Call.Signal trigger) (Reply.Signalled how)) }
+        ensures none { IfErr result (λ fault. Refuses fault (sight self.old) (sight self.new)
+            (Self.Body.seen body.old) (Self.Body.seen body.new)) }
+        ensures rest { Self.Body.same_rest body.old body.new };
+
+    /// Attaches a trigger to a computation, where that is running.
+    fn attach(
+        &mut self,
+        body: &mut Self::Body,
+        place: PlaceNo,
+        comp: CompNo,
+        trigger: TriggerNo,
+    ) -> Result<AttachReply, PortFault>
+        requires { CanMake (sight self.old) (Self.Body.seen body.old) (Call.Attach place comp trigger) }
+        ensures made { IfOk result (λ how. Called (sight self.old) (sight self.new)
+            (Self.Body.seen body.old) (Self.Body.seen body.new)
+            (Call.Attach place comp trigger) (Reply.Attached how)) }
+        ensures none { IfErr result (λ fault. Refuses fault (sight self.old) (sight self.new)
+            (Self.Body.seen body.old) (Self.Body.seen body.new)) }
+        ensures rest { Self.Body.same_rest body.old body.new };
+
+    /// The first of what the body's fiber owes, by no entry.
+    fn walk_next(&mut self, body: &mut Self::Body) -> Option<Duty>
+        requires { Holds (sight self.old) (Self.Body.seen body.old) }
+        ensures first { result ≡ slice_get (Self.Body.seen body.old).owes 0 }
+        ensures spared { Spared (sight self.old) (sight self.new)
+            (Self.Body.seen body.old) (Self.Body.seen body.new) }
+        ensures calm { Calm (sight self.old) (sight self.new) }
+        ensures rest { Self.Body.same_rest body.old body.new };
+
     /// Looks at a computation.
     fn peek(&mut self, body: &mut Self::Body, comp: CompNo) -> Result<Option<Outcome>, PortFault>
         requires { CanMake (sight self.old) (Self.Body.seen body.old) (Call.Peek comp) }
-        ensures made { IfOk result (λ seen. Called (sight self.old) (sight self.new)
+        ensures made { IfOk result (λ seen. Answered (sight self.old) (sight self.new)
             (Self.Body.seen body.old) (Self.Body.seen body.new) (Call.Peek comp) (Reply.Peeked seen)) }
         ensures none { IfErr result (λ fault. Refuses fault (sight self.old) (sight self.new)
             (Self.Body.seen body.old) (Self.Body.seen body.new)) }
@@ -98,7 +173,7 @@ pub trait Port: Drop {
         outcome: Outcome,
     ) -> Result<CompleteReply, PortFault>
         requires { CanMake (sight self.old) (Self.Body.seen body.old) (Call.Complete comp outcome) }
-        ensures made { IfOk result (λ how. Called (sight self.old) (sight self.new)
+        ensures made { IfOk result (λ how. Answered (sight self.old) (sight self.new)
             (Self.Body.seen body.old) (Self.Body.seen body.new)
             (Call.Complete comp outcome) (Reply.Completed how)) }
         ensures none { IfErr result (λ fault. Refuses fault (sight self.old) (sight self.new)
@@ -124,7 +199,7 @@ pub trait Port: Drop {
             (Self.Body.seen body.old) (Self.Body.seen body.new) (Call.Fork text value)) }
         ensures back { IfErr result (λ refused.
             IsSame (Self.Body.seen child) (Self.Body.seen refused.0)
-            × ((Self.Body.seen refused.0).owes ≡ nothing)
+            × ((Self.Body.seen refused.0).owes ≡ [])
             × Self.Body.same_rest child refused.0) }
         ensures rest { Self.Body.same_rest body.old body.new };
 
@@ -162,6 +237,26 @@ pub trait Port: Drop {
             (Self.Body.seen body) (Self.Body.seen refused.0)
             × Self.Body.same_rest body refused.0) };
 
+    /// Arms a trigger with the resumption of the body's fiber, which is suspended at it from then on. Where
+    /// the trigger is signalled or awaited already, the fiber goes on, and the body is handed back.
+    fn park(&mut self, trigger: TriggerNo, body: Self::Body) -> Result<(), (Self::Body, ParkRefusal)>
+        requires can { CanMake (sight self.old) (Self.Body.seen body)
+            (Call.Arm trigger (Action.Resume (fiber_of (Self.Body.seen body)))) }
+        requires after { FitsWith Self.Body.seen Self.Body.same_rest Self.Body.fits body
+            (log (sight self.old).front (fiber_of (Self.Body.seen body)))
+            (event (fiber_of (Self.Body.seen body))
+                (Call.Arm trigger (Action.Resume (fiber_of (Self.Body.seen body))))
+                (Reply.Armed ArmReply.Set)) }
+        ensures made { OnOk result (Made (sight self.old) (sight self.new)
+            (event (fiber_of (Self.Body.seen body))
+                (Call.Arm trigger (Action.Resume (fiber_of (Self.Body.seen body))))
+                (Reply.Armed ArmReply.Set))) }
+        ensures out { OnOk result ((sight self.new).out ≡ None) }
+        ensures none { IfErr result (λ refused. NotParked refused.1 (sight self.old) (sight self.new)
+            (Self.Body.seen body) (Self.Body.seen refused.0)
+            (Call.Arm trigger (Action.Resume (fiber_of (Self.Body.seen body))))
+            × Self.Body.same_rest body refused.0) };
+
     /// Ends the body's fiber, and keeps the body for the report.
     fn end(&mut self, body: Self::Body, outcome: Outcome) -> Result<(), (Self::Body, PortFault)>
         requires can { CanMake (sight self.old) (Self.Body.seen body) (Call.End outcome) }
@@ -186,6 +281,6 @@ pub trait Port: Drop {
         ensures none { IfErr result (λ fault. Kept (sight self.old) (sight self.new)
             × Faulted fault (sight self.old) (sight self.new)) };
 
-    // A body that owes nothing stands for no duty.
-    ghost owes_none: { (port : Self) → (sight port).duties nothing ≡ [] };
+    // Its history begins as a world starts.
+    ghost starts: { (port : Self) → IsStart (sight port).origin.world };
 }

@@ -1,4 +1,4 @@
-ghost use Rattle.std.specs.Prelude.{◌≡◌, ◌<◌, ◌↔◌, ℕ, [], length, replicate, slice_get, IsTrue, IfOk, OnOk, OnErr};
+ghost use Rattle.std.specs.Prelude.{◌≡◌, ◌<◌, ◌≤◌, ◌↔◌, ℕ, [], length, replicate, slice_get, IsTrue, IfOk, OnOk, OnErr};
 ghost use Rattle.pic_machine.specs.State.{CanStart, owed_of, world_at};
 ghost use Rattle.pic_machine.specs.Step.{Allowed, IsLive, after, reply_of};
 ghost use Rattle.pic_machine.specs.Final.{IsAtRest, IsFinal};
@@ -79,8 +79,59 @@ impl World {
     }
 
     /// Makes one call of a fiber, and answers its reply.
-    #[tactic(auto, using(crate::proofs::Callers::armer_is_live, crate::proofs::Callers::ender_is_live))]
+    #[inline(always)]
     pub fn apply(&mut self, fiber: FiberNo, call: Call) -> Result<Reply, Memory>
+        requires { Allowed self.old fiber call }
+        ensures reply { IfOk result (λ reply. reply ≡ reply_of self.old fiber call) }
+        ensures after { OnOk result (self.new ≡ after self.old fiber call) }
+        ensures err { OnErr result (self.new ≡ self.old) }
+    {
+        // These stand in hot loops, and leave the world as it is.
+        match call {
+            Call::Turn => Ok(Reply::Plain),
+            Call::Yield => Ok(Reply::Plain),
+            Call::Say(_) => Ok(Reply::Plain),
+            _ => self.change(fiber, call),
+        }
+    }
+
+    /// The fibers in order of their numbers, from 1.
+    pub fn fibers(&self) -> &[FiberState]
+        ensures { result.now ≡ self.now.fibers }
+    {
+        self.fibers.as_slice()
+    }
+
+    /// What a fiber owes; the clock is fiber 0.
+    pub fn owed(&self, fiber: FiberNo) -> &Duties
+        requires { fiber ≤ length self.now.fibers }
+        ensures { result.now ≡ owed_of self.now fiber }
+    {
+        &self.owed[fiber as usize]
+    }
+
+    /// Whether the fiber is live.
+    pub fn is_live(&self, fiber: FiberNo) -> bool
+        ensures { IsTrue result ↔ IsLive self.now fiber }
+    {
+        fiber != 0 && matches!(self.fibers.get(fiber as usize - 1), Some(FiberState::Live))
+    }
+
+    /// Whether nothing is left to do.
+    pub fn is_final(&self) -> bool
+        ensures { IsTrue result ↔ IsFinal self.now }
+    {
+        self.fibers
+            .iter()
+            .all(|fiber| is_at_rest(&self.triggers, *fiber))
+            && self.owed.iter().all(|owed| owed.is_empty())
+    }
+}
+
+impl World {
+    /// Makes a call that may change the world.
+    #[tactic(auto, using(crate::proofs::Callers::armer_is_live, crate::proofs::Callers::ender_is_live))]
+    fn change(&mut self, fiber: FiberNo, call: Call) -> Result<Reply, Memory>
         requires { Allowed self.old fiber call }
         ensures reply { IfOk result (λ reply. reply ≡ reply_of self.old fiber call) }
         ensures after { OnOk result (self.new ≡ after self.old fiber call) }
@@ -104,30 +155,6 @@ impl World {
                 Ok(Reply::Plain)
             }
         }
-    }
-
-    /// The fibers in order of their numbers, from 1.
-    pub fn fibers(&self) -> &[FiberState]
-        ensures { result.now ≡ self.now.fibers }
-    {
-        self.fibers.as_slice()
-    }
-
-    /// Whether the fiber is live.
-    pub fn is_live(&self, fiber: FiberNo) -> bool
-        ensures { IsTrue result ↔ IsLive self.now fiber }
-    {
-        fiber != 0 && matches!(self.fibers.get(fiber as usize - 1), Some(FiberState::Live))
-    }
-
-    /// Whether nothing is left to do.
-    pub fn is_final(&self) -> bool
-        ensures { IsTrue result ↔ IsFinal self.now }
-    {
-        self.fibers
-            .iter()
-            .all(|fiber| is_at_rest(&self.triggers, *fiber))
-            && self.owed.iter().all(|owed| owed.is_empty())
     }
 }
 

@@ -2,7 +2,7 @@
 use Rattle.std.proofs.Common.{◌≡◌, ℕ, suc, ◌+◌, ◌-◌, ◌<◌, ◌≤◌, Bool, List, [], ◌∷◌, ◌++◌, length, drop, get_or, codes, sym, ap, ◌∙◌, arith, append-nil}
 use Rattle.std.proofs.lemmas.List.{drop_more, drop_all}
 use Rattle.pic_machine.specs.declared.entry.Entry.{Entry}
-use Rattle.pic_machine.specs.Completing.{comp_state, completion}
+use Rattle.pic_machine.specs.Completing.{completion, outcome_by}
 use Rattle.script_tree.specs.Tree.{Tree}
 use Rattle.pic_report.specs.declared.view.FiberView.{FiberView}
 use Rattle.pic_report.specs.declared.view.RunView.{RunView}
@@ -11,11 +11,9 @@ use Rattle.pic_report.specs.Report.{clock_line, comp_line, declared_names, fiber
 use Rattle.pic_report.specs.View.{all_entries, main_state, told_lines, traced_lines, view_text, viewed_lines, views_lines}
 use Rattle.pic_report.proofs.Putting.{joined-append}
 
--- what the entry at place i says, and then what those behind it say
-pub says_from : (es : List Entry) (i : ℕ) (e : Entry) → i < length es → e ≡ get_or es i e → joined (says_of (drop i es)) ≡ joined (said_lines e.call) ++ joined (says_of (drop (i + 1) es))
-says_from es i e within is =
-    ap (λ (w : List Entry). joined (says_of w)) (drop_more es i e within)
-    ∙ (ap (λ (x : Entry). joined (said_lines x.call ++ says_of (drop (i + 1) es))) (sym is) ∙ joined-append (said_lines e.call) (says_of (drop (i + 1) es)))
+-- what the first of the entries that are left says, and then what those behind it say
+pub says_from : (es later : List Entry) (e : Entry) → es ≡ e ∷ later → joined (says_of es) ≡ joined (said_lines e.call) ++ joined (says_of later)
+says_from es later e is = ap (λ (w : List Entry). joined (says_of w)) is ∙ joined-append (said_lines e.call) (says_of later)
 
 -- the fiber at place i, and then those behind it
 pub views_from : (names : List (List ℕ)) (with_log : Bool) (views : List FiberView) (i : ℕ) (view : FiberView) → i < length views → view ≡ get_or views i view
@@ -30,13 +28,13 @@ views_end names with_log views i end = ap (λ (w : List FiberView). joined (view
 
 -- a fiber's line, and then what it said and what it did
 pub viewed_parts : (names : List (List ℕ)) (with_log : Bool) (f : ℕ) (view : FiberView)
-    → joined (viewed_lines names with_log f view) ≡ fiber_line (text_name names view.text) f view.state ++ (joined (says_of view.entries.items) ++ joined (log_lines names with_log view.entries.items))
+    → joined (viewed_lines names with_log f view) ≡ fiber_line (text_name names view.text) f view.state ++ (joined (says_of view.entries.entries) ++ joined (log_lines names with_log view.entries.entries))
 viewed_parts names with_log f view =
-    ap (λ (w : List ℕ). fiber_line (text_name names view.text) f view.state ++ w) (joined-append (says_of view.entries.items) (log_lines names with_log view.entries.items))
+    ap (λ (w : List ℕ). fiber_line (text_name names view.text) f view.state ++ w) (joined-append (says_of view.entries.entries) (log_lines names with_log view.entries.entries))
 
 -- the computation with number c, and then those behind it
 pub told_from : (names : List (List ℕ)) (es : List Entry) (c count : ℕ) → c < count
-    → joined (told_lines names es c (count - c)) ≡ comp_line names c (completion es c) (comp_state (completion es c)) ++ joined (told_lines names es (c + 1) (count - (c + 1)))
+    → joined (told_lines names es c (count - c)) ≡ comp_line names c (completion es c) (outcome_by (completion es c)) ++ joined (told_lines names es (c + 1) (count - (c + 1)))
 told_from names es c count within =
     let more : count - c ≡ suc (count - (c + 1)) = omega arith in
     ap (λ (n : ℕ). joined (told_lines names es c n)) more

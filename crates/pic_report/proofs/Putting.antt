@@ -1,6 +1,5 @@
 -- What is written piece by piece.
-use Rattle.std.proofs.Common.{◌≡◌, ℕ, ◌+◌, ◌<◌, ◌≤◌, inl, inr, Option, Some, None, List, [], ◌++◌, length, take, drop, Result, Ok, Err, refl, sym, ap, subst, ◌∙◌, arith, append_assoc, append-nil, take-append-drop, map, get_or}
-use Rattle.std.proofs.lemmas.List.{drop_more}
+use Rattle.std.proofs.Common.{◌≡◌, ℕ, ◌≤◌, inl, inr, Option, Some, None, List, [], ◌++◌, length, take, drop, Result, Ok, Err, refl, sym, ap, subst, ◌∙◌, arith, append_assoc, append-nil, take-append-drop}
 use Rattle.std.proofs.lemmas.Grind.{flat_map-append}
 use Rattle.std.specs.Io.KnownBytes.{Appends, Keeps}
 use Rattle.std.proofs.KnownBytes.{Appends-trans, Appends-nil}
@@ -95,12 +94,6 @@ module _ {before now later : Option (List ℕ)} {faults faults_now faults_later 
   pub puts_last : {text rest : List ℕ} (r : Result (Unit {0}) ReportRefusal) → IsPut before now faults faults_now text rest → Puts now later faults_now faults_later rest r → Puts before later faults faults_later text r
   puts_last {rest = rest} (Err e) put puts = puts_then rest [] e put (sym (append-nil rest)) puts
   puts_last {rest = rest} (Ok u) put puts = put_whole before later faults faults_later _ [] (puts_on rest [] put (sym (append-nil rest)) puts) refl
-
--- the lines from place i on: the one there, and those behind it
-pub lines_from : {A : Type 0} (f : A → List ℕ) (xs : List A) (i : ℕ) (x : A) → i < length xs → x ≡ get_or xs i x
-    → joined (map f (drop i xs)) ≡ f x ++ joined (map f (drop (i + 1) xs))
-lines_from {A} f xs i x within is =
-    ap (λ (w : List A). joined (map f w)) (drop_more xs i x within) ∙ ap (λ (y : A). f y ++ joined (map f (drop (i + 1) xs))) (sym is)
 
 pub joined-append : (xs ys : List (List ℕ)) → joined (xs ++ ys) ≡ joined xs ++ joined ys
 joined-append xs ys = flat_map-append (λ (line : List ℕ). line) xs ys

@@ -12,7 +12,7 @@ use Rattle.pic_report.proofs.Found.{completion-append, of_fibers}
 
 -- the views of the fibers from number f on have these fibers' logs
 abbrev pub HaveLogs : List Happened → ℕ → List FiberView → Type 0
-HaveLogs hs f views = (i : ℕ) (view : FiberView) → slice_get views i ≡ Some view → view.entries.items ≡ visible (log hs (f + i))
+HaveLogs hs f views = (i : ℕ) (view : FiberView) → slice_get views i ≡ Some view → view.entries.entries ≡ visible (log hs (f + i))
 
 logs_behind : (hs : List Happened) (f : ℕ) (view : FiberView) (views : List FiberView) → HaveLogs hs f (view ∷ views) → HaveLogs hs (f + 1) views
 logs_behind hs f view views have = λ i seen is. have (suc i) seen is ∙ ap (λ (k : ℕ). visible (log hs k)) (let same : f + suc i ≡ (f + 1) + i = omega arith in same)
@@ -24,8 +24,8 @@ module _ (c : ℕ) (hs : List Happened) (once : IsOnce c hs) where
   first_tells : (f : ℕ) (view : FiberView) (views : List FiberView) (k : Option Completion) → HaveLogs hs f (view ∷ views) → completion (entries hs) c ≡ k
       → completion (of_fibers (view ∷ views)) c ≡ first_of (made_by f k) (completion (of_fibers views) c)
   first_tells f view views k have is =
-      let here : view.entries.items ≡ visible (log hs f) = have 0 view refl ∙ ap (λ (n : ℕ). visible (log hs n)) (let same : f + 0 ≡ f = omega arith in same) in
-      completion-append view.entries.items (of_fibers views) c
+      let here : view.entries.entries ≡ visible (log hs f) = have 0 view refl ∙ ap (λ (n : ℕ). visible (log hs n)) (let same : f + 0 ≡ f = omega arith in same) in
+      completion-append view.entries.entries (of_fibers views) c
       ∙ ap (λ (j : Option Completion). first_of j (completion (of_fibers views) c)) (ap (λ (es : List Entry). completion es c) here ∙ log_tells f k is)
 
   -- nobody completed it

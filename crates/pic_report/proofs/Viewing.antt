@@ -1,5 +1,5 @@
 -- From what is left of a port to the view of its history.
-use Rattle.std.proofs.Common.{◌≡◌, ◌≢◌, ℕ, suc, ◌+◌, ◌-◌, ◌<◌, ◌≤◌, ◌⊎◌, inl, inr, Bool, false, Some, None, List, [], ◌∷◌, ◌++◌, length, slice_get, get_or, refl, ap, subst, ◌∙◌, arith}
+use Rattle.std.proofs.Common.{◌≡◌, ◌≢◌, ℕ, suc, ◌+◌, ◌-◌, ◌<◌, ◌≤◌, ◌⊎◌, inl, inr, Bool, false, Option, Some, None, List, [], ◌∷◌, ◌++◌, length, slice_get, get_or, refl, ap, subst, ◌∙◌, arith}
 use Rattle.std.proofs.lemmas.Option.{get_or_from_slice_get, slice_get_cases, slice_get_within}
 use Rattle.pic_base.specs.declared.outcome.Outcome.{Outcome}
 use Rattle.pic_machine.specs.declared.closed.Closed.{Closed}
@@ -7,12 +7,12 @@ use Rattle.pic_machine.specs.declared.entry.Entry.{Entry}
 use Rattle.pic_machine.specs.Happened.{Happened}
 use Rattle.pic_machine.specs.declared.state.FiberState.{FiberState}
 use Rattle.pic_machine.specs.declared.state.FiberState.TheVariants.{Live, Ended}
-use Rattle.pic_machine.specs.declared.world.Start.{Start}
-use Rattle.pic_machine.specs.Home.{IsHome}
-use Rattle.pic_machine.specs.History.{Origin, IsLegal, birth_in, origin_of, world}
+use Rattle.pic_machine.specs.Home.{IsBodyOf}
+use Rattle.pic_machine.specs.History.{Origin, IsLegal, world}
 use Rattle.pic_machine.specs.Log.{is_turn, log, visible}
 use Rattle.pic_machine.proofs.Fates.{EndsSo, ends_log}
 use Rattle.pic_machine.proofs.Histories.{visible-push}
+use Rattle.script_tree.specs.Tree.{Tree}
 use Rattle.fiber_body.specs.Fits.{Fits}
 use Rattle.fiber_body.specs.Shown.{Shown as Body, carry_of}
 use Rattle.pic_report.specs.declared.view.FiberView.{FiberView}
@@ -38,59 +38,48 @@ fate_told hs o ends =
     let all : visible hs ≡ visible ends.front ++ ends.last.entry ∷ [] = ap visible ends.is ∙ visible-push ends.front ends.last within in
     ap fate all ∙ (ap fate_of (last_of (visible ends.front) ends.last.entry) ∙ ap ended_in ends.call)
 
-fate_of_state : (start : Start) (hs : List Happened) (place : ℕ) (state : FiberState) → IsLegal (origin_of start) hs → state ≢ Live → slice_get (world (origin_of start) hs).fibers place ≡ Some state → fate (visible (log hs (place + 1))) ≡ state
-fate_of_state start hs place Live legal ended is = absurd (ended refl)
-fate_of_state start hs place (Ended o) legal ended is = fate_told (log hs (place + 1)) o (ends_log (origin_of start) hs place o refl legal is)
+fate_of_state : (origin : Origin) (hs : List Happened) (place : ℕ) (state : FiberState) → origin.world.fibers ≡ Live ∷ [] → IsLegal origin hs → state ≢ Live → slice_get (world origin hs).fibers place ≡ Some state → fate (visible (log hs (place + 1))) ≡ state
+fate_of_state origin hs place Live main legal ended is = absurd (ended refl)
+fate_of_state origin hs place (Ended o) main legal ended is = fate_told (log hs (place + 1)) o (ends_log origin hs place o main legal is)
 
 -- ---- the view
 
-module _ (start : Start) (history : List Happened) (closed : Closed Body) (left : IsLeftOf start history closed) where
-  -- what stands at the port's origin and front stands of the start and the history
-  carry : (P : Origin → List Happened → Type 0) → P left.port.origin left.port.front → P (origin_of start) history
-  carry P p = subst (λ (hs : List Happened). P (origin_of start) hs) left.front (subst (λ (o : Origin). P o left.port.front) left.origin p)
-
-  legal : IsLegal (origin_of start) history
-  legal = carry (λ o hs. IsLegal o hs) left.left.legal
-
-  count : length closed.bodies.items ≡ length (world (origin_of start) history).fibers
-  count = carry (λ o hs. length closed.bodies.items ≡ length (world o hs).fibers) left.left.count
-
+module _ (origin : Origin) (share : Option Tree) (history : List Happened) (closed : Closed Body) (left : IsLeftOf origin share history closed) where
   not_clock : (place : ℕ) → place + 1 ≢ 0
   not_clock place = λ is. absurd (omega (arith, is))
 
-  ended : (place : ℕ) (state : FiberState) → slice_get (world (origin_of start) history).fibers place ≡ Some state → state ≢ Live
+  ended : (place : ℕ) (state : FiberState) → slice_get (world origin history).fibers place ≡ Some state → state ≢ Live
   ended place state is =
-      let fibers = (world (origin_of start) history).fibers in
+      let fibers = (world origin history).fibers in
       subst (λ (s : FiberState). s ≢ Live) (get_or_from_slice_get fibers place state Live is) (left.final.ended place Live (slice_get_within fibers place state is))
 
-  viewed : (place : ℕ) (body : Body) (state : FiberState) (view : FiberView) → slice_get closed.bodies.items place ≡ Some body → slice_get (world (origin_of start) history).fibers place ≡ Some state → IsTakenFrom body view
-      → IsFiberView start history (place + 1) state view
+  viewed : (place : ℕ) (body : Body) (state : FiberState) (view : FiberView) → slice_get closed.bodies.items place ≡ Some body → slice_get (world origin history).fibers place ≡ Some state → IsTakenFrom body view
+      → IsFiberView origin history (place + 1) state view
   viewed place body state view there is taken =
-      let home : IsHome carry_of Fits left.port (place + 1) body = left.left.home place body there in
-      let noted : body.noted ≡ visible (log history (place + 1)) = carry (λ o hs. body.noted ≡ visible (log hs (place + 1))) home.fitting.noted in
+      let home : IsBodyOf carry_of Fits origin share history (place + 1) body = left.left.body place body there in
       record {
         birth = body.birth;
-        born = carry (λ o hs. birth_in o hs (place + 1) ≡ Some body.birth) (home.birth (not_clock place));
+        born = home.birth (not_clock place);
         text = taken.text;
-        state_is = taken.state ∙ (ap fate noted ∙ fate_of_state start history place state legal (ended place state is) is);
-        noted = taken.noted ∙ noted;
+        state_is = taken.state ∙ (ap fate home.fitting.noted ∙ fate_of_state origin history place state left.main left.left.legal (ended place state is) is);
+        noted = taken.noted ∙ home.fitting.noted;
       }
 
   module _ (views : List FiberView) (taken : AreTakenFrom closed.bodies.items views) where
-    by_place : (place : ℕ) (state : FiberState) (view : FiberView) → slice_get (world (origin_of start) history).fibers place ≡ Some state → slice_get views place ≡ Some view
+    by_place : (place : ℕ) (state : FiberState) (view : FiberView) → slice_get (world origin history).fibers place ≡ Some state → slice_get views place ≡ Some view
         → ((x : Body) × (place < length closed.bodies.items) × (slice_get closed.bodies.items place ≡ Some x) × (get_or closed.bodies.items place x ≡ x)) ⊎ ((length closed.bodies.items ≤ place) × (slice_get closed.bodies.items place ≡ None))
-        → IsFiberView start history (place + 1) state view
+        → IsFiberView origin history (place + 1) state view
     by_place place state view is seen (inl found) = viewed place found.0 state view found.2 is (taken.each place found.0 view found.2 seen)
-    by_place place state view is seen (inr past) = absurd (omega (arith, past.0, count, slice_get_within (world (origin_of start) history).fibers place state is))
+    by_place place state view is seen (inr past) = absurd (omega (arith, past.0, left.left.count, slice_get_within (world origin history).fibers place state is))
 
-  pub view_left : (traced logged : Bool) (view : RunView) → AreTakenFrom closed.bodies.items view.fibers.items → view.clock_entries.items ≡ closed.clock.noted → view.now ≡ closed.now → IsTraceOf history traced view.trace → view.log ≡ logged
-      → IsViewOf start history traced logged view
+  pub view_left : (traced logged : Bool) (view : RunView) → AreTakenFrom closed.bodies.items view.fibers.items → view.clock_entries.entries ≡ closed.clock.noted → view.now ≡ closed.now → IsTraceOf history traced view.trace → view.log ≡ logged
+      → IsViewOf origin history traced logged view
   view_left traced logged view taken clock now trace logs = record {
-    legal = legal;
-    count = taken.count ∙ count;
+    legal = left.left.legal;
+    count = taken.count ∙ left.left.count;
     fiber = λ place state seen is there. by_place view.fibers.items taken place state seen is there (slice_get_cases closed.bodies.items place).1;
-    clock = clock ∙ carry (λ o hs. closed.clock.noted ≡ visible (log hs 0)) left.left.clock.fitting.noted;
-    time = now ∙ left.left.now;
+    clock = clock ∙ left.left.clock.fitting.noted;
+    now = now ∙ left.left.now;
     traces = trace;
     logs = logs;
   }

@@ -1,5 +1,6 @@
 pub mod EntryText
 pub mod Report
+pub mod EntryLine
 pub mod View
 pub mod Output
 pub mod Refusals

@@ -2,6 +2,7 @@
 use Rattle.std.proofs.Common.{zero, suc}
 use Rattle.std.specs.Prelude.{ℕ, ◌+◌, Bool, true, false, Option, Some, None, List, [], ◌∷◌, ◌++◌, codes, decimal, slice_index_or, slice_get, map}
 use Rattle.std.specs.List.{flat_map}
+use Rattle.pic_base.specs.declared.outcome.Outcome.{Outcome}
 use Rattle.pic_base.specs.declared.outcome.Outcome.TheVariants.{Cancelled}
 use Rattle.pic_base.specs.Outcome.{outcome_text}
 use Rattle.pic_machine.specs.declared.birth.Birth.{Birth}
@@ -10,14 +11,13 @@ use Rattle.pic_machine.specs.declared.entry.Call.TheVariants.{Say}
 use Rattle.pic_machine.specs.declared.entry.Entry.{Entry}
 use Rattle.pic_machine.specs.Happened.{Happened}
 use Rattle.pic_machine.specs.declared.state.CompState.{CompState}
-use Rattle.pic_machine.specs.declared.state.CompState.TheVariants.{Running, Done}
 use Rattle.pic_machine.specs.declared.state.Completion.{Completion}
 use Rattle.pic_machine.specs.declared.state.FiberState.{FiberState}
 use Rattle.pic_machine.specs.declared.state.FiberState.TheVariants.{Live, Ended}
-use Rattle.pic_machine.specs.declared.world.Start.{Start}
 use Rattle.pic_machine.specs.State.{State}
-use Rattle.pic_machine.specs.Completing.{completion}
-use Rattle.pic_machine.specs.History.{birth_in, origin_of, world}
+use Rattle.pic_machine.specs.Closing.{time}
+use Rattle.pic_machine.specs.Completing.{completion, outcome_of}
+use Rattle.pic_machine.specs.History.{Origin, birth_in, world}
 use Rattle.pic_machine.specs.Log.{entries, log, visible}
 use Rattle.script_tree.specs.declared.program.Decl.{Decl}
 use Rattle.script_tree.specs.declared.program.Text.{Text}
@@ -93,11 +93,11 @@ abbrev pub fiber_lines : List (List ℕ) → Bool → List ℕ → ℕ → Fiber
 fiber_lines names log name f state es = fiber_line name f state ∷ (says_of es ++ log_lines names log es)
 
 -- the lines of the fibers from number f on, which stand so
-abbrev pub fibers_lines : Tree → Start → List Happened → Bool → ℕ → List FiberState → List (List ℕ)
-fibers_lines script start hs with_log f [] = []
-fibers_lines script start hs with_log f (state ∷ states) =
-    fiber_lines (text_names script) with_log (name_of_birth (text_names script) (birth_in (origin_of start) hs f)) f state (visible (log hs f))
-    ++ fibers_lines script start hs with_log (f + 1) states
+abbrev pub fibers_lines : Tree → Origin → List Happened → Bool → ℕ → List FiberState → List (List ℕ)
+fibers_lines script origin hs with_log f [] = []
+fibers_lines script origin hs with_log f (state ∷ states) =
+    fiber_lines (text_names script) with_log (name_of_birth (text_names script) (birth_in origin hs f)) f state (visible (log hs f))
+    ++ fibers_lines script origin hs with_log (f + 1) states
 
 -- ---- computations
 
@@ -106,21 +106,21 @@ abbrev pub completer : Option Completion → ℕ
 completer None = 0
 completer (Some completed) = completed.fiber
 
--- how the computation stands, and which fiber completed it, to the line's end
-abbrev pub comp_state_text : Option Completion → CompState → List ℕ
-comp_state_text by Running = codes "running\n"
-comp_state_text by (Done outcome) =
+-- that the computation runs, or its outcome and which fiber completed it, to the line's end
+abbrev pub comp_state_text : Option Completion → Option Outcome → List ℕ
+comp_state_text by None = codes "running\n"
+comp_state_text by (Some outcome) =
     outcome_text outcome ++ (codes " by " ++ (decimal (completer by) ++ codes "\n"))
 
-abbrev pub comp_line : List (List ℕ) → ℕ → Option Completion → CompState → List ℕ
-comp_line names c by state = codes "comp " ++ (decimal c ++ (codes " "
-    ++ (comp_name names c ++ (codes " " ++ comp_state_text by state))))
+abbrev pub comp_line : List (List ℕ) → ℕ → Option Completion → Option Outcome → List ℕ
+comp_line names c by outcome = codes "comp " ++ (decimal c ++ (codes " "
+    ++ (comp_name names c ++ (codes " " ++ comp_state_text by outcome))))
 
 -- the lines of the computations from number c on, which stand so, after these entries
 abbrev pub comps_lines : List (List ℕ) → List Entry → ℕ → List CompState → List (List ℕ)
 comps_lines names es c [] = []
 comps_lines names es c (state ∷ states) =
-    comp_line names c (completion es c) state ∷ comps_lines names es (c + 1) states
+    comp_line names c (completion es c) (outcome_of state) ∷ comps_lines names es (c + 1) states
 
 -- ---- the whole
 
@@ -132,20 +132,20 @@ abbrev pub run_line : Option FiberState → List ℕ
 run_line (Some (Ended (Cancelled code))) = codes "run raised " ++ (decimal code ++ codes "\n")
 run_line _ = codes "run done\n"
 
--- the lines of a report of this world, to which this history of the script led from the start
-abbrev pub report_lines : Tree → Start → List Happened → Bool → Bool → State → List (List ℕ)
-report_lines script start hs trace with_log w = codes "picos report 1\n"
+-- the lines of a report of this world, to which this history of the script led from its origin
+abbrev pub report_lines : Tree → Origin → List Happened → Bool → Bool → State → List (List ℕ)
+report_lines script origin hs trace with_log w = codes "picos report 1\n"
     ∷ (trace_lines (text_names script) trace (entries hs)
-    ++ (fibers_lines script start hs with_log 1 w.fibers
+    ++ (fibers_lines script origin hs with_log 1 w.fibers
     ++ (comps_lines (declared_names script) (entries hs) 0 w.comps
-    ++ (clock_line 0 ∷ (run_line (slice_get w.fibers 0) ∷ [])))))
+    ++ (clock_line (time hs) ∷ (run_line (slice_get w.fibers 0) ∷ [])))))
 
 -- the text of lines
 abbrev pub joined : List (List ℕ) → List ℕ
 joined lines = flat_map (λ line. line) lines
 
--- the report of a history of the script from the start, with its trace and the fibers' logs where they
+-- the report of a history of the script from its origin, with its trace and the fibers' logs where they
 -- are asked for
-abbrev pub report : Tree → Start → List Happened → Bool → Bool → List ℕ
-report script start hs trace with_log =
-    joined (report_lines script start hs trace with_log (world (origin_of start) hs))
+abbrev pub report : Tree → Origin → List Happened → Bool → Bool → List ℕ
+report script origin hs trace with_log =
+    joined (report_lines script origin hs trace with_log (world origin hs))

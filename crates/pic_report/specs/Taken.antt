@@ -7,7 +7,7 @@ use Rattle.pic_report.specs.Lines.{fate}
 -- the view has the body's text and entries, and the state that these tell
 pub record IsTakenFrom (body : Body) (view : FiberView) : Type 0 where
   pub text : view.text ≡ body.birth.text
-  pub noted : view.entries.items ≡ body.noted
+  pub noted : view.entries.entries ≡ body.noted
   pub state : view.state ≡ fate body.noted
 
 -- the views are those of the bodies, in order

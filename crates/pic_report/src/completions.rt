@@ -5,6 +5,7 @@ ghost use Rattle.pic_report.specs.Lines.{IsNoted, noted};
 ghost use Rattle.pic_report.specs.View.{all_entries};
 
 use crate::view::RunView;
+use entry_log::FiberLog;
 use pic_base::{CompNo, Memory};
 use pic_machine::{Call, CompleteReply, Completion, Entry, Reply};
 use std::alloc::Global;
@@ -21,18 +22,18 @@ pub(crate) fn completions_of(
 {
     let mut found: Vec<Option<Completion>> = vec![in alloc; None; count]?;
     for fiber in &view.fibers {
-        note_all(&mut found, fiber.entries.as_slice());
+        note_all(&mut found, &fiber.entries);
     }
-    note_all(&mut found, view.clock_entries.as_slice());
+    note_all(&mut found, &view.clock_entries);
     Ok(found)
 }
 
 /// Notes what the entries tell.
-fn note_all(found: &mut Vec<Option<Completion>>, entries: &[Entry])
-    ensures { IsNoted found.old.items found.new.items entries.now }
+fn note_all(found: &mut Vec<Option<Completion>>, entries: &FiberLog)
+    ensures { IsNoted found.old.items found.new.items entries.now.entries }
 {
     for entry in entries {
-        if let Some((comp, completion)) = completion_by(*entry) {
+        if let Some((comp, completion)) = completion_by(entry) {
             note(found, comp as usize, completion);
         }
     }

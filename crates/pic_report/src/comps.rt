@@ -1,6 +1,6 @@
 //! The lines of computations.
 ghost use Rattle.std.specs.Prelude.{◌≡◌, ◌+◌, length};
-ghost use Rattle.pic_machine.specs.Completing.{comp_state};
+ghost use Rattle.pic_machine.specs.Completing.{outcome_by};
 ghost use Rattle.pic_report.specs.Output.{Puts};
 ghost use Rattle.pic_report.specs.Report.{comp_line, comp_name, declared_names, joined};
 ghost use Rattle.pic_report.specs.View.{all_entries, told_lines};
@@ -42,7 +42,7 @@ fn put_comp<K: Sink>(
     out: &mut K,
 ) -> Result<(), ReportRefusal>
     ensures { Puts (K.taken out.old) (K.taken out.new) (K.fault_count out.old) (K.fault_count out.new)
-        (comp_line (declared_names program.now) number by (comp_state by)) result }
+        (comp_line (declared_names program.now) number by (outcome_by by)) result }
 {
     let name = comp_name(program, number);
     match by {

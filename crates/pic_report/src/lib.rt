@@ -4,16 +4,16 @@
 //! `write_report` writes it to a sink, line by line. `specs/Report.antt` defines the text of a report
 //! of a history, with `EntryText` for the texts of entries; `View` says what a view has of a history,
 //! and which text is written of a view; `Output` says how a text was written. It stands on `pic_base`,
-//! `pic_io`, `pic_machine`, `port_plain` (for what a port leaves), `script_tree` and `fiber_body`.
+//! `pic_io`, `pic_machine`, `entry_log`, `script_tree`, `fiber_body` and the kit's `itoa`.
 #![tactic(auto)]
 
 mod completions;
 mod comps;
+mod entry_lines;
 mod entry_texts;
 mod fibers;
 mod output;
 mod refusal;
-mod trace;
 mod view;
 mod writing;
 

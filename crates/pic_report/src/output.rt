@@ -8,6 +8,7 @@ use std::alloc::AllocError;
 use std::fmt::Display;
 
 /// Writes a text in one piece, and then what of it was not taken.
+#[inline(always)]
 pub fn put_all<K: Sink>(out: &mut K, text: &[u8]) -> Result<(), ReportRefusal>
     ensures { Puts (K.taken out.old) (K.taken out.new)
         (K.fault_count out.old) (K.fault_count out.new) text.now result }
@@ -22,6 +23,7 @@ pub fn put_all<K: Sink>(out: &mut K, text: &[u8]) -> Result<(), ReportRefusal>
 
 /// Writes a line, which is made in the buffer, in place of what stood there: one buffer serves for all
 /// lines, so that not each of them takes memory of its own.
+#[inline(always)]
 pub(crate) fn put_line<K: Sink, L: Display + Drop>(
     line: L,
     buffer: &mut String,

@@ -2,7 +2,8 @@
 ghost use Rattle.std.specs.Prelude.{◌<◌};
 
 use super::*;
-use pic_base::Outcome;
+use entry_log::{EntryLog, FiberLog};
+use pic_base::{Memory, Outcome};
 use pic_io::MemSink;
 use pic_machine::{Call, CompleteReply, Entry, FiberState, Reply};
 use script_tree::parse;
@@ -12,8 +13,20 @@ use std::test::Fail;
 /// A script with a computation and two texts.
 const SCRIPT: &[u8] = b"picos 1\ncomp a\nfiber f\nend\nmain\nend\n";
 
-fn entry(fiber: u32, call: Call, reply: Reply) -> Entry {
-    Entry { fiber, call, reply }
+fn note(log: &mut FiberLog, call: Call, reply: Reply) -> Result<(), Memory> {
+    log.reserve()?;
+    log.note(call, reply);
+    Ok(())
+}
+
+fn push(log: &mut EntryLog, fiber: u32, call: Call) -> Result<(), Memory> {
+    log.reserve()?;
+    log.push_reserved(Entry {
+        fiber,
+        call,
+        reply: Reply::Plain,
+    });
+    Ok(())
 }
 
 /// A run of two fibers in which each kind of entry stands.
@@ -26,26 +39,26 @@ fn view(alloc: Global, log: bool) -> Result<RunView, Fail> {
     };
     let fork = Call::Fork { text: 0, value: 7 };
     let lost = Reply::Completed(CompleteReply::Lost(six));
-    let mut main = Vec::new(alloc);
-    main.push(entry(1, Call::Peek(1), Reply::Peeked(None)))?;
-    main.push(entry(1, fork, Reply::Made(2)))?;
-    main.push(entry(1, fork, Reply::Full))?;
-    main.push(entry(1, Call::Yield, Reply::Plain))?;
-    main.push(entry(1, complete, lost))?;
-    main.push(entry(1, Call::Peek(1), Reply::Peeked(Some(six))))?;
-    main.push(entry(1, Call::End(five), Reply::Plain))?;
+    let mut main = FiberLog::new(alloc, 1);
+    note(&mut main, Call::Peek(1), Reply::Peeked(None))?;
+    note(&mut main, fork, Reply::Made(2))?;
+    note(&mut main, fork, Reply::Full)?;
+    note(&mut main, Call::Yield, Reply::Plain)?;
+    note(&mut main, complete, lost)?;
+    note(&mut main, Call::Peek(1), Reply::Peeked(Some(six)))?;
+    note(&mut main, Call::End(five), Reply::Plain)?;
     let cancel = Call::Complete {
         comp: 1,
         outcome: six,
     };
     let won = Reply::Completed(CompleteReply::Won);
-    let mut child = Vec::new(alloc);
-    child.push(entry(2, Call::Say(7), Reply::Plain))?;
-    child.push(entry(2, cancel, won))?;
-    child.push(entry(2, Call::End(six), Reply::Plain))?;
-    let mut trace = Vec::new(alloc);
-    trace.push(entry(1, Call::Turn, Reply::Plain))?;
-    trace.push(entry(2, Call::Say(7), Reply::Plain))?;
+    let mut child = FiberLog::new(alloc, 2);
+    note(&mut child, Call::Say(7), Reply::Plain)?;
+    note(&mut child, cancel, won)?;
+    note(&mut child, Call::End(six), Reply::Plain)?;
+    let mut trace = EntryLog::new(alloc);
+    push(&mut trace, 1, Call::Turn)?;
+    push(&mut trace, 2, Call::Say(7))?;
     let mut fibers = Vec::new(alloc);
     fibers.push(FiberView {
         text: 1,
@@ -59,7 +72,7 @@ fn view(alloc: Global, log: bool) -> Result<RunView, Fail> {
     })?;
     Ok(RunView {
         fibers,
-        clock_entries: Vec::new(alloc),
+        clock_entries: FiberLog::new(alloc, 0),
         now: 0,
         trace: if log { Some(trace) } else { None },
         log,

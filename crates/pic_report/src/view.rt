@@ -1,16 +1,17 @@
 //! What of a run a report is made from.
-ghost use Rattle.std.specs.Prelude.{◌≡◌, ◌+◌, Bool, List, ℕ, length, slice_get, IfOk};
+ghost use Rattle.std.specs.Prelude.{◌≡◌, Bool, List, Option, IfOk};
 ghost use Rattle.pic_machine.specs.Happened.{Happened};
-ghost use Rattle.pic_machine.specs.declared.world.Start.{Start};
+ghost use Rattle.pic_machine.specs.History.{Origin};
 ghost use Rattle.script_tree.specs.Tree.{Tree};
 ghost use Rattle.pic_report.specs.Lines.{ended_in, fate};
 ghost use Rattle.pic_report.specs.Report.{report};
-ghost use Rattle.pic_report.specs.View.{IsLeftOf, IsTraceOf, IsViewOf, main_state, view_text};
+ghost use Rattle.pic_report.specs.View.{BeginsRunning, IsLeftOf, IsTraceOf, IsViewOf, main_state, view_text};
 ghost use Rattle.pic_report.specs.Taken.{IsTakenFrom, AreTakenFrom};
 
+use entry_log::{EntryLog, FiberLog};
 use fiber_body::Body;
 use pic_base::Memory;
-use pic_machine::{Call, Closed, Entry, FiberState};
+use pic_machine::{Call, Closed, FiberState};
 use std::alloc::Global;
 
 /// What a report tells of a fiber: the text that it runs, a place among the program's texts, how it
@@ -19,7 +20,7 @@ use std::alloc::Global;
 pub struct FiberView {
     pub text: u32,
     pub state: FiberState,
-    pub entries: Vec<Entry>,
+    pub entries: FiberLog,
 }
 
 /// What a report tells of a run: the fibers in order from 1, the clock's entries and the time that it
@@ -28,9 +29,9 @@ pub struct FiberView {
 #[derive(Drop)]
 pub struct RunView {
     pub fibers: Vec<FiberView>,
-    pub clock_entries: Vec<Entry>,
+    pub clock_entries: FiberLog,
     pub now: u32,
-    pub trace: Option<Vec<Entry>>,
+    pub trace: Option<EntryLog>,
     pub log: bool,
 }
 
@@ -50,17 +51,19 @@ impl RunView {
 pub fn view_of(
     alloc: Global,
     closed: Closed<Body>,
-    trace: Option<Vec<Entry>>,
+    trace: Option<EntryLog>,
     log: bool,
 ) -> Result<RunView, Memory>
-    ensures view { IfOk result (λ view. (start : Start) (history : List Happened) (traced : Bool)
-        → IsLeftOf start history closed → IsTraceOf history traced trace
-        → IsViewOf start history traced log view) }
+    ensures view { IfOk result (λ view. (origin : Origin) (share : Option Tree)
+        (history : List Happened) (traced : Bool)
+        → IsLeftOf origin share history closed → IsTraceOf history traced trace
+        → IsViewOf origin history traced log view) }
     // So the view's text is the history's report.
-    ensures text { IfOk result (λ view. (script : Tree) (start : Start) (history : List Happened) (traced : Bool)
-        → start.comps ≡ length script.decls + 1
-        → IsLeftOf start history closed → IsTraceOf history traced trace
-        → view_text script view ≡ report script start history traced log) }
+    ensures text { IfOk result (λ view. (script : Tree) (origin : Origin) (share : Option Tree)
+        (history : List Happened) (traced : Bool)
+        → BeginsRunning script origin
+        → IsLeftOf origin share history closed → IsTraceOf history traced trace
+        → view_text script view ≡ report script origin history traced log) }
 {
     let Closed { bodies, clock, now } = closed;
     Ok(RunView {
@@ -91,16 +94,16 @@ fn fiber_view(body: Body) -> FiberView
     let entries = body.into_entries();
     FiberView {
         text,
-        state: fate(entries.as_slice()),
+        state: fate(&entries),
         entries,
     }
 }
 
 /// How a fiber stands that did this: its end is the last that it does.
-fn fate(entries: &[Entry]) -> FiberState
-    ensures { result ≡ fate entries.now }
+fn fate(entries: &FiberLog) -> FiberState
+    ensures { result ≡ fate entries.now.entries }
 {
-    match entries.last().copied() {
+    match entries.last() {
         Some(entry) => ended_in(entry.call),
         None => FiberState::Live,
     }

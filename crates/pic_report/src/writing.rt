@@ -4,14 +4,15 @@ ghost use Rattle.pic_report.specs.Report.{clock_line, joined, run_line, text_nam
 ghost use Rattle.pic_report.specs.View.{traced_lines, view_text};
 
 use crate::comps::put_comps;
+use crate::entry_lines::{Place, put_entries};
 use crate::fibers::put_fibers;
 use crate::output::{put_all, put_line};
 use crate::refusal::ReportRefusal;
-use crate::trace::put_trace;
 use crate::view::RunView;
+use entry_log::EntryLog;
 use pic_base::Outcome;
 use pic_io::Sink;
-use pic_machine::{Entry, FiberState};
+use pic_machine::FiberState;
 use script_tree::Program;
 use std::alloc::Global;
 
@@ -38,7 +39,7 @@ pub fn write_report<K: Sink>(
 /// Writes the trace, where there is one.
 fn put_traced<K: Sink>(
     program: &Program,
-    trace: &Option<Vec<Entry>>,
+    trace: &Option<EntryLog>,
     buffer: &mut String,
     out: &mut K,
 ) -> Result<(), ReportRefusal>
@@ -46,7 +47,7 @@ fn put_traced<K: Sink>(
         (joined (traced_lines (text_names program.now) trace.now)) result }
 {
     match trace {
-        Some(entries) => put_trace(program, entries.as_slice(), buffer, out),
+        Some(entries) => put_entries(program, entries.iter(), Place::Trace, buffer, out),
         None => Ok(()),
     }
 }

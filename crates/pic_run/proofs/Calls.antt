@@ -88,10 +88,8 @@ run_written : (w : State) (status : Status) → IsStatusOf w status → status �
 run_written w status ended is = ran_other (run_status w status ended) (λ d. cc) (λ d. cc)
 
 answers_written : {bytes text : List ℕ} {command : Command} {status : Status} → Answers bytes command text status → status ≡ WriteFault → ⊥
-answers_written (refused r cause) is = absurd cc
 answers_written (ran {status = status} tree history reads accepts is_run ended) is = run_written (world (origin tree) history) status ended is
-answers_written (checked tree reads) is = absurd cc
-answers_written (shown tree reads again) is = absurd cc
+answers_written _ is = absurd cc
 
 -- ---- how the writing ended
 
@@ -126,8 +124,7 @@ module _ {NoMore : Type 0} (bytes : List ℕ) (command : Command) (o : Output) w
       → Headline (holds bytes) traced logged o.before o.now status
   script_headline (whole {text} {status} answers appends) is script input traced logged same =
       headline_of (holds bytes) o (subst (λ (c : Command). Answers bytes c text status) same answers) refl appends is
-  script_headline (fault rose more) is script input traced logged same = ran_other is (λ d. cc) (λ d. cc)
-  script_headline (memory more) is script input traced logged same = ran_other is (λ d. cc) (λ d. cc)
+  script_headline _ is script input traced logged same = ran_other is (λ d. cc) (λ d. cc)
 
   accepted : {status : Status} → Promise (Answers bytes command) NoMore o status → (Rose o.faults o.faults_now → ⊥) → IsServed command bytes → EndsWell command status ⊎ (status ≡ OutOfMemory)
   accepted (whole answers appends) sound served = inl (answers_well answers served)
@@ -172,13 +169,9 @@ module _ (asked : Asked) (o : Output) where
 
   pub headline : {NoMore : Type 0} {status : Status} → Promise (Due asked) NoMore o status → (status ≡ Done) ⊎ (status ≡ Raised) → (script input : List ℕ) (traced logged : Bool) → request asked.words ≡ Some (run script input traced logged)
       → Headline (asked.held script) traced logged o.before o.now status
-  headline (whole (usage none) appends) is script input traced logged asks = ran_other is (λ d. cc) (λ d. cc)
-  headline (whole (read_fault asks' rose named) appends) is script input traced logged asks = ran_other is (λ d. cc) (λ d. cc)
-  headline (whole (too_large asks' longer) appends) is script input traced logged asks = ran_other is (λ d. cc) (λ d. cc)
   headline (whole (answer {bytes = bytes} {text} {status} asks' given within answers) appends) is script input traced logged asks =
       headline_of (asked.held script) o (subst (λ (c : Command). Answers bytes c text status) (same_command asks' asks) answers) (subst (λ (h : Held). Gives h bytes) (held_for asks' asks) given) appends is
-  headline (fault rose more) is script input traced logged asks = ran_other is (λ d. cc) (λ d. cc)
-  headline (memory more) is script input traced logged asks = ran_other is (λ d. cc) (λ d. cc)
+  headline _ is script input traced logged asks = ran_other is (λ d. cc) (λ d. cc)
 
   no_request : {NoMore : Type 0} {status : Status} → Promise (Due asked) NoMore o status → request asked.words ≡ None → (status ≡ Usage) ⊎ GaveUp status
   no_request (whole (usage none) appends) absent = inl refl
@@ -189,12 +182,9 @@ module _ (asked : Asked) (o : Output) where
   no_request (memory more) absent = inr (inr refl)
 
   rose_of : {NoMore : Type 0} {status : Status} → Promise (Due asked) NoMore o status → status ≡ WriteFault → Rose o.faults o.faults_now
-  rose_of (whole (usage none) appends) is = absurd cc
-  rose_of (whole (read_fault asks rose named) appends) is = absurd cc
-  rose_of (whole (too_large asks longer) appends) is = absurd cc
   rose_of (whole (answer asks given within answers) appends) is = absurd (answers_written answers is)
   rose_of (fault rose more) is = rose
-  rose_of (memory more) is = absurd cc
+  rose_of _ is = absurd cc
 
   module _ (command : Command) (asks : request asked.words ≡ Some command) where
     none_there : {NoMore : Type 0} {status : Status} → Promise (Due asked) NoMore o status → asked.held (script_of command) ≡ missing → (status ≡ ReadFault) ⊎ GaveUp status

@@ -1,13 +1,11 @@
 -- From what is left of the port, once a run is over, to what is told of the run.
 use Rattle.std.proofs.Common.{◌≡◌, ◌≢◌, ℕ, zero, suc, ◌+◌, ◌<◌, ◌≤◌, ◌⊎◌, inl, inr, Bool, true, false, Option, Some, None, List, [], ◌∷◌, length, slice_get, get_or, refl, sym, ap, subst, ◌∙◌, arith}
-use Rattle.std.specs.Prelude.{All, Vec}
+use Rattle.std.specs.Prelude.{All}
 use Rattle.std.specs.Bool.{then_some}
-use Rattle.std.specs.Global.{Global}
 use Rattle.std.proofs.lemmas.Option.{slice_get_cases}
 use Rattle.pic_base.specs.declared.outcome.Outcome.TheVariants.{Returned, Cancelled}
 use Rattle.pic_machine.specs.declared.birth.Birth.{Birth}
 use Rattle.pic_machine.specs.declared.closed.Closed.{Closed}
-use Rattle.pic_machine.specs.declared.entry.Entry.{Entry}
 use Rattle.pic_machine.specs.Happened.{Happened}
 use Rattle.pic_machine.specs.declared.state.FiberState.{FiberState}
 use Rattle.pic_machine.specs.declared.state.FiberState.TheVariants.{Live, Ended}
@@ -15,10 +13,11 @@ use Rattle.pic_machine.specs.State.{State}
 use Rattle.pic_machine.specs.Final.{IsFinal}
 use Rattle.pic_machine.specs.History.{Origin, IsLegal, birth_in, world}
 use Rattle.pic_machine.specs.Log.{entries, log}
-use Rattle.pic_machine.specs.Home.{IsHome}
+use Rattle.pic_machine.specs.Closing.{IsLeft}
+use Rattle.pic_machine.specs.Home.{IsBodyOf}
 use Rattle.pic_machine.proofs.Fresh.{birth_of_made, fibers_grow}
-use Rattle.port_plain.specs.Shown.{Shown as Port, sight_of}
-use Rattle.port_plain.specs.Closing.{IsLeft}
+use Rattle.entry_log.specs.Logged.{Recorded}
+use Rattle.port_plain.specs.Shown.{Shown as Port, origin_in}
 use Rattle.script_tree.specs.Tree.{Tree}
 use Rattle.fiber_body.specs.Follows.{FollowsText}
 use Rattle.fiber_body.specs.Shown.{Shown as Body, carry_of}
@@ -29,10 +28,7 @@ use Rattle.pic_run.specs.Over.{IsOver, IsReportOf}
 use Rattle.pic_report.specs.declared.view.FiberView.{FiberView}
 use Rattle.pic_report.specs.Report.{report}
 use Rattle.pic_report.specs.View.{IsFiberView, IsLeftOf, IsTraceOf, IsViewOf, main_state, view_text}
-use Rattle.pic_run.specs.Limits.{limits}
-use Rattle.fiber_body.specs.Starts.{start_of}
 use Rattle.std.specs.Arc.{arc_value}
-use Rattle.pic_machine.specs.declared.world.Start.{Start}
 use Rattle.pic_run.specs.Status.{IsStatusOf, status_of}
 
 -- ---- the status
@@ -51,8 +47,8 @@ status_is : (script : Tree) (hs : List Happened) → IsFinal (world (origin scri
 status_is script hs final = status_at (world (origin script) hs) (world (origin script) hs).fibers refl final.ended (main_made script hs)
 
 -- main stands as its view says
-main_seen : {start : Start} {hs : List Happened} (views : List FiberView) (states : List FiberState) → length views ≡ length states
-    → ((place : ℕ) (state : FiberState) (seen : FiberView) → slice_get states place ≡ Some state → slice_get views place ≡ Some seen → IsFiberView start hs (place + 1) state seen) → main_state views ≡ slice_get states 0
+main_seen : {origin : Origin} {hs : List Happened} (views : List FiberView) (states : List FiberState) → length views ≡ length states
+    → ((place : ℕ) (state : FiberState) (seen : FiberView) → slice_get states place ≡ Some state → slice_get views place ≡ Some seen → IsFiberView origin hs (place + 1) state seen) → main_state views ≡ slice_get states 0
 main_seen [] [] count are = refl
 main_seen [] (state ∷ states) count are = absurd (omega (arith, count))
 main_seen (view ∷ views) [] count are = absurd (omega (arith, count))
@@ -61,25 +57,25 @@ main_seen (view ∷ views) (state ∷ states) count are = ap Some (are 0 state v
 -- ---- the trace
 
 -- the entries that the port hands over are the trace, where it is asked for
-pub trace_of_stored : (hs : List Happened) (traced : Bool) (stored : Vec Entry Global) (trace : Option (Vec Entry Global)) → stored.items ≡ entries hs → trace ≡ then_some traced stored → IsTraceOf hs traced trace
+pub trace_of_stored : (hs : List Happened) (traced : Bool) (stored : Recorded) (trace : Option Recorded) → stored.entries ≡ entries hs → trace ≡ then_some traced stored → IsTraceOf hs traced trace
 trace_of_stored hs true stored trace are is = subst (IsTraceOf hs true) (sym is) (refl, are)
 trace_of_stored hs false stored trace are is = subst (IsTraceOf hs false) (sym is) refl
 
 -- ---- the run
 
-module _ (script : Tree) (port : Port Body) (closed : Closed Body) (over : IsOver script port) (left : IsLeft carry_of Fits (sight_of carry_of port) closed) where
+module _ (script : Tree) (port : Port Body) (closed : Closed Body) (over : IsOver script port) (left : IsLeft carry_of Fits (origin_in carry_of port) port.main.program port.front closed) where
   not_clock : (place : ℕ) → place + 1 ≢ 0
   not_clock place = λ is. absurd (omega (arith, is))
 
   follows_at : (place : ℕ) (body : Body) (birth : Birth) → slice_get closed.bodies.items place ≡ Some body → birth_in (origin script) port.front (place + 1) ≡ Some birth
       → FollowsText script (place + 1) birth (log port.front (place + 1))
   follows_at place body birth is made =
-      let home : IsHome carry_of Fits (sight_of carry_of port) (place + 1) body = left.home place body is in
-      let mine : MayBeOf body.number (place + 1) = subst (λ (n : Option ℕ). MayBeOf n (place + 1)) (sym home.number) (refl, not_clock place) in
-      let both : Some body.birth ≡ Some birth = sym (subst (λ (o : Origin). birth_in o port.front (place + 1) ≡ Some body.birth) over.begun (home.birth (not_clock place))) ∙ made in
+      let its : IsBodyOf carry_of Fits (origin_in carry_of port) port.main.program port.front (place + 1) body = left.body place body is in
+      let mine : MayBeOf body.number (place + 1) = subst (λ (n : Option ℕ). MayBeOf n (place + 1)) (sym its.number) (refl, not_clock place) in
+      let both : Some body.birth ≡ Some birth = sym (subst (λ (o : Origin). birth_in o port.front (place + 1) ≡ Some body.birth) over.begun (its.birth (not_clock place))) ∙ made in
       let same : body.birth ≡ birth = cc in
       subst (λ (b : Birth). FollowsText script (place + 1) b (log port.front (place + 1))) same
-      (home.fitting.follows script (place + 1) (home.share (not_clock place) ∙ over.share) mine)
+      (its.fitting.follows script (place + 1) (its.share (not_clock place) ∙ over.share) mine)
 
   legal : IsLegal (origin script) port.front
   legal = subst (λ (o : Origin). IsLegal o port.front) over.begun left.legal
@@ -103,23 +99,21 @@ module _ (script : Tree) (port : Port Body) (closed : Closed Body) (over : IsOve
   run_left = record {
     legal = legal;
     follows = λ f birth made. follows_there f birth made (birth_of_made (origin script) port.front f birth legal (omega arith) made);
-    final = subst (λ (o : Origin). IsFinal (world o port.front)) over.begun over.final;
+    final = over.final;
     ordered = over.ordered;
   }
 
   -- what the port leaves is left of a run from the script's start
-  pub left_of_run : IsLeftOf (start_of script limits) port.front closed
+  pub left_of_run : IsLeftOf (origin script) port.main.program port.front closed
   left_of_run = record {
-    port = sight_of carry_of port;
-    origin = over.begun;
-    front = refl;
-    left = left;
-    final = run_left.final;
+    main = refl;
+    left = subst (λ (o : Origin). IsLeft carry_of Fits o port.main.program port.front closed) over.begun left;
+    final = over.final;
   }
 
   -- the report of a view of that
-  pub report_left : (traced logged : Bool) (made : Report) → arc_value made.program ≡ script → IsViewOf (start_of script limits) port.front traced logged made.view
-      → view_text script made.view ≡ report script (start_of script limits) port.front traced logged → made.status ≡ status_of (main_state made.view.fibers.items) → IsReportOf script port.front traced logged made
+  pub report_left : (traced logged : Bool) (made : Report) → arc_value made.program ≡ script → IsViewOf (origin script) port.front traced logged made.view
+      → view_text script made.view ≡ report script (origin script) port.front traced logged → made.status ≡ status_of (main_state made.view.fibers.items) → IsReportOf script port.front traced logged made
   report_left traced logged made program view text status = record {
     run = run_left;
     text = ap (λ (t : Tree). view_text t made.view) program ∙ text;

@@ -1,5 +1,5 @@
 -- What a run begins with: the start, the bodies of main and of the clock, and the port.
-use Rattle.std.proofs.Common.{◌≡◌, ◌+◌, ◌≤◌, true, Option, length, refl, sym, ap, subst, ◌∙◌, arith}
+use Rattle.std.proofs.Common.{◌≡◌, ◌+◌, ◌≤◌, true, Option, Some, None, length, refl, sym, ap, subst, ◌∙◌, arith}
 use Rattle.std.proofs.lemmas.List.{length-replicate}
 use Rattle.pic_machine.specs.declared.birth.Birth.{Birth}
 use Rattle.pic_machine.specs.declared.state.CompState.TheVariants.{Running}
@@ -26,12 +26,18 @@ can_start script start is few =
 -- ---- bodies
 
 -- nothing has happened to a new body
-module _ (body : Body) (program : Option Tree) (birth : Birth) (new : IsNew body program birth) where
-  pub new_clock : IsClock carry_of Fits body
-  new_clock = record { unnumbered = new.number; owes = refl; fitting = new.fits }
+module _ (body : Body) (program : Option Tree) (birth : Birth) where
+  pub new_clock : IsNew body program birth (Some 0) → IsClock carry_of Fits body
+  new_clock new = record { number = new.number_is; owes = refl; fitting = new.fits }
 
-  pub new_main : (start : Start) → birth ≡ record { text = start.text; value = 0; current = 0 } → IsMain carry_of Fits start body
-  new_main start is = record { unnumbered = new.number; birth = new.birth_is ∙ is; owes = refl; fitting = new.fits }
+  pub new_main : IsNew body program birth None → (start : Start) → CanStart start → birth ≡ record { text = start.text; value = 0; current = 0 } → IsMain carry_of Fits start body
+  new_main new start can is = record {
+    unnumbered = new.number_is;
+    text = ap (λ (b : Birth). b.text) (new.birth_is ∙ is);
+    current = omega (arith, can.root, ap (λ (b : Birth). b.current) (new.birth_is ∙ is));
+    owes = refl;
+    fitting = new.fits;
+  }
 
 -- ---- the port
 
@@ -41,4 +47,4 @@ comps_stand script port opened = ap (λ (s : Start). length (world_at s).comps) 
 pub opened_polls : (script : Tree) (port : Port Body) → IsOpened script port → is_built script ≡ true → IsPortOf script (sight_of carry_of port)
 opened_polls script port opened built =
     let count = comps_stand script port opened in
-    record { share = opened.share; built = built; comps = omega (arith, count); main = omega (arith, count) }
+    record { share = opened.share; built = built; comps = omega (arith, count); main = omega (arith, count, ap (λ (b : Birth). b.current) opened.birth) }

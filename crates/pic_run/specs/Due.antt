@@ -4,7 +4,6 @@ use Rattle.pic_io.specs.Faults.{Rose}
 use Rattle.pic_io.specs.Held.{Held, Gives, IsLongerThan}
 use Rattle.pic_machine.specs.Happened.{Happened}
 use Rattle.pic_machine.specs.History.{world}
-use Rattle.fiber_body.specs.Starts.{start_of}
 use Rattle.pic_report.specs.Report.{report}
 use Rattle.script_tree.specs.declared.refusal.Refused.{Refused as Refusal}
 use Rattle.script_tree.specs.Tree.{Tree}
@@ -12,7 +11,7 @@ use Rattle.script_tree.specs.Grammar.{grammar}
 use Rattle.script_tree.specs.Canon.{canon}
 use Rattle.pic_run.specs.declared.status.Status.{Status}
 use Rattle.pic_run.specs.declared.status.Status.TheVariants.{Done, Usage, Refused, ReadFault, TooLarge}
-use Rattle.pic_run.specs.Limits.{limits, most_bytes}
+use Rattle.pic_run.specs.Limits.{most_bytes}
 use Rattle.pic_run.specs.Run.{IsRunOf, origin}
 use Rattle.pic_run.specs.Request.{Command, run, check, show, script_of, request}
 use Rattle.pic_run.specs.Refusal.{Accepts, IsRefused, refusal_text}
@@ -46,7 +45,7 @@ pub data Answers (bytes : List ℕ) : Command → List ℕ → Status → Type 0
   ran : {script input : List ℕ} {traced logged : Bool} {status : Status} (tree : Tree) (history : List Happened)
       → grammar bytes ≡ Ok tree → Accepts (run script input traced logged) tree → IsRunOf tree history
       → IsStatusOf (world (origin tree) history) status
-      → Answers bytes (run script input traced logged) (report tree (start_of tree limits) history traced logged) status
+      → Answers bytes (run script input traced logged) (report tree (origin tree) history traced logged) status
   checked : {script : List ℕ} (tree : Tree) → grammar bytes ≡ Ok tree
       → Answers bytes (check script) (codes "ok\n") Done
   shown : {script : List ℕ} (tree : Tree) → grammar bytes ≡ Ok tree → grammar (canon tree) ≡ Ok tree

@@ -10,13 +10,11 @@ use Rattle.pic_machine.specs.Log.{log}
 use Rattle.pic_machine.specs.Final.{IsFinal}
 use Rattle.pic_machine.specs.Order.{IsInFifoOrder}
 use Rattle.fiber_body.specs.Follows.{FollowsText}
-use Rattle.fiber_body.specs.Starts.{start_of}
 use Rattle.fiber_poll.specs.Built.{is_built}
 use Rattle.pic_report.specs.Report.{report}
 use Rattle.script_tree.specs.Tree.{Tree}
 use Rattle.script_tree.specs.Grammar.{grammar}
 use Rattle.pic_run.specs.declared.status.Status.{Status}
-use Rattle.pic_run.specs.Limits.{limits}
 use Rattle.pic_run.specs.Run.{origin}
 use Rattle.pic_run.specs.Status.{IsStatusOf}
 
@@ -36,7 +34,7 @@ pub record Headline (held : Held) (traced logged : Bool) (before now : Option (L
   -- it ends with every fiber ended
   pub final : IsFinal (world (origin script) history)
   -- the sink took exactly its report, with the trace and the logs where they were asked for
-  pub written : Appends before now (report script (start_of script limits) history traced logged)
+  pub written : Appends before now (report script (origin script) history traced logged)
   -- the status is how main ended
   pub ended : IsStatusOf (world (origin script) history) status
   -- its turns stand in the FIFO order

@@ -9,10 +9,10 @@ use Rattle.pic_machine.specs.Order.{IsInFifoOrder}
 use Rattle.pic_run.specs.Limits.{limits}
 use Rattle.script_tree.specs.Tree.{Tree}
 use Rattle.fiber_body.specs.Follows.{FollowsText}
-use Rattle.fiber_body.specs.Starts.{start_of}
+use Rattle.fiber_body.specs.Starts.{main_birth, start_of}
 
 abbrev pub origin : Tree → Origin
-origin script = origin_of (start_of script limits)
+origin script = origin_of (start_of script limits) (main_birth script)
 
 -- one legal history of the machine from the script's start, in which each fiber that was made follows
 -- its text from its birth, which ends in a final world, and whose turns stand in the FIFO order

@@ -20,7 +20,7 @@ pub(crate) fn run_program(alloc: Global, program: &Arc<Program>) -> Result<Plain
     ensures { IfOk result (IsOver (arc_value program.now)) }
 {
     let port = open(alloc, program)?;
-    let poller = ScriptPoller::new(alloc, program.clone()?);
+    let poller = ScriptPoller::new(alloc, program.clone()?)?;
     run_fifo(alloc, &poller, port)
 }
 

@@ -16,6 +16,7 @@ use std::alloc::Global;
 
 /// Does with the bytes of a script what the request asks for, and writes what came of it: the report
 /// of a run of the script, that it is one, its canonical text, or why it was refused. No file is read.
+/// The one condition is that there are at most 16,777,216 bytes (`MOST_BYTES`).
 pub fn answer_script<K: Sink>(
     alloc: Global,
     request: &Request,

@@ -6,9 +6,10 @@ use Rattle.pic_machine.specs.declared.closed.Closed.{Closed}
 use Rattle.pic_machine.specs.Happened.{Happened}
 use Rattle.pic_machine.specs.State.{State}
 use Rattle.pic_machine.specs.Sight.{Carry}
-use Rattle.port_plain.specs.Shown.{Shown, sight_of}
+use Rattle.port_plain.specs.Shown.{IsAtHome, Shown, origin_in, sight_of}
 use Rattle.port_plain.specs.Stored.{IsStored}
-use Rattle.port_plain.specs.Closing.{IsLeft}
+use Rattle.pic_machine.specs.Closing.{IsLeft}
+use Rattle.port_plain.specs.Closing.{OwesAsLeft}
 use Rattle.port_plain.proofs.Keeping.{stored_seen}
 
 -- the bodies that were taken, then the rest of the places, are all places; and there is room for the rest
@@ -47,13 +48,24 @@ module _ {B S : Type 0} (seen : B → Carry S) (fits : B → List Happened → T
     pub all_home : (place : ℕ) → slice_get bodies place ≡ Some None → ⊥
     all_home place empty = let e : None ≡ Some (place + 1) = sym out ∙ (stored_seen seen fits port now w bodies ticking same stored).gone place empty in cc
 
-    pub left_of : (closed : Closed B) → map Some closed.bodies.items ≡ bodies → closed.clock ≡ ticking → closed.now ≡ 0 → IsLeft seen fits (sight_of seen now) closed
-    left_of closed is clock time =
-        let there = stored_seen seen fits port now w bodies ticking same stored in
-        record {
-          legal = there.legal;
-          count = sym (length-map closed.bodies.items Some) ∙ (ap (λ (xs : List (Option B)). length xs) is ∙ (there.count ∙ ap (λ (u : State). length u.fibers) there.now));
-          home = λ place body at. there.home place body (ap (λ (xs : List (Option B)). slice_get xs place) (sym is) ∙ (slice_get-map Some closed.bodies.items place ∙ (rw at refl)));
-          clock = rw clock there.clock;
-          now = time;
-        }
+    module _ (closed : Closed B) (is : map Some closed.bodies.items ≡ bodies) (clock : closed.clock ≡ ticking) where
+      there : IsStored seen fits now w bodies ticking
+      there = stored_seen seen fits port now w bodies ticking same stored
+
+      at_home : (place : ℕ) (body : B) → slice_get closed.bodies.items place ≡ Some body → IsAtHome seen fits now (place + 1) body
+      at_home place body at = there.home place body (ap (λ (xs : List (Option B)). slice_get xs place) (sym is) ∙ (slice_get-map Some closed.bodies.items place ∙ (rw at refl)))
+
+      clock_home : IsAtHome seen fits now 0 closed.clock
+      clock_home = rw clock there.clock
+
+      pub left_of : closed.now ≡ 0 → IsLeft seen fits (origin_in seen now) (seen now.main).share now.front closed
+      left_of time = record {
+        legal = there.legal;
+        count = sym (length-map closed.bodies.items Some) ∙ (ap (λ (xs : List (Option B)). length xs) is ∙ (there.count ∙ ap (λ (u : State). length u.fibers) there.now));
+        body = λ place body at. (at_home place body at).stands;
+        clock = clock_home.stands;
+        now = time;
+      }
+
+      pub owes_left : OwesAsLeft seen (sight_of seen now) closed
+      owes_left = record { bodies = λ place body at. (at_home place body at).owes; clock = clock_home.owes; room = rw clock there.room }

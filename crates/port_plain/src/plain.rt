@@ -2,12 +2,13 @@ ghost use Rattle.std.specs.Prelude.{◌≡◌, ◌↔◌, ◌∷◌, [], ◌++�
 ghost use Rattle.pic_machine.specs.State.{CanStart};
 ghost use Rattle.pic_machine.specs.Final.{IsFinal};
 ghost use Rattle.pic_machine.specs.Step.{IsLive};
-ghost use Rattle.pic_machine.specs.History.{IsLegal, origin_of, world};
+ghost use Rattle.pic_machine.specs.History.{IsLegal, world};
 ghost use Rattle.pic_machine.specs.Log.{entries};
-ghost use Rattle.port_plain.specs.Shown.{IsMain, IsClock, births_in};
+ghost use Rattle.port_plain.specs.Shown.{IsMain, IsClock, births_in, origin_in};
 
+use entry_log::EntryLog;
 use pic_base::{FiberNo, Memory};
-use pic_machine::{Birth, Carried, Entry, Start, World};
+use pic_machine::{Birth, Carried, Start, World};
 use std::alloc::Global;
 use std::marker::Model;
 use std::snapshot::Snapshot;
@@ -25,7 +26,7 @@ pub struct PlainPort<B: Carried> {
     start: Start,
     main: Snapshot<B>,
     world: World,
-    history: Vec<Entry>,
+    history: EntryLog,
     /// Apart from the history, since few of its entries make a fiber.
     births: Vec<Birth>,
     bodies: Vec<Option<B>>,
@@ -34,6 +35,7 @@ pub struct PlainPort<B: Carried> {
 }
 
 impl<B: Carried> Model for PlainPort<B> {
+    ghost use Rattle.pic_machine.specs.State.{world_at};
     ghost use Rattle.port_plain.specs.Shown.{Shown};
     ghost use Rattle.port_plain.specs.Paired.{HasEachBirth, paired};
     ghost use Rattle.port_plain.specs.Stored.{IsStored};
@@ -43,30 +45,31 @@ impl<B: Carried> Model for PlainPort<B> {
     ghost view = { λ port. record {
       start = port.start;
       main = port.main.value;
-      front = paired port.history.items port.births.items;
+      front = paired (world_at port.start) port.history.entries port.births.items;
       out = port.out;
     } };
 
     ghost invariant = { λ port. IsStored B.seen B.fits
-        (record { start = port.start; main = port.main.value; front = paired port.history.items port.births.items; out = port.out })
+        (record { start = port.start; main = port.main.value; front = paired (world_at port.start) port.history.entries port.births.items; out = port.out })
         port.world port.bodies.items port.clock
-        × HasEachBirth port.history.items port.births.items };
+        × HasEachBirth port.history.entries port.births.items };
 }
 
 impl<B: Carried> PlainPort<B> {
     /// The world that the history leads to.
     pub fn world(&self) -> &World
-        ensures now { result.now ≡ world (origin_of self.now.start) self.now.front }
+        ensures now { result.now ≡ world (origin_in B.seen self.now) self.now.front }
         ensures start { CanStart self.now.start }
     {
         &self.world
     }
 
     /// The entries of all that happened so far.
-    pub fn history(&self) -> &[Entry]
-        ensures { result.now ≡ entries self.now.front }
+    pub fn history(&self) -> &EntryLog
+        ensures entries { result.now.entries ≡ entries self.now.front }
+        ensures legal { IsLegal (origin_in B.seen self.now) self.now.front }
     {
-        self.history.as_slice()
+        &self.history
     }
 
     /// The births of the fibers that were made so far, in order. Main wasn't made by an entry.
@@ -78,16 +81,16 @@ impl<B: Carried> PlainPort<B> {
 
     /// Whether the fiber is live.
     pub(crate) fn is_live(&self, fiber: FiberNo) -> bool
-        ensures legal { IsLegal (origin_of self.now.start) self.now.front }
-        ensures live { IsTrue result ↔ IsLive (world (origin_of self.now.start) self.now.front) fiber }
+        ensures legal { IsLegal (origin_in B.seen self.now) self.now.front }
+        ensures live { IsTrue result ↔ IsLive (world (origin_in B.seen self.now) self.now.front) fiber }
     {
         self.world.is_live(fiber)
     }
 
     /// Whether nothing is left to do.
     pub(crate) fn is_final(&self) -> bool
-        ensures legal { IsLegal (origin_of self.now.start) self.now.front }
-        ensures done { IsTrue result ↔ IsFinal (world (origin_of self.now.start) self.now.front) }
+        ensures legal { IsLegal (origin_in B.seen self.now) self.now.front }
+        ensures done { IsTrue result ↔ IsFinal (world (origin_in B.seen self.now) self.now.front) }
     {
         self.world.is_final()
     }

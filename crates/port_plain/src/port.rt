@@ -1,15 +1,13 @@
 //! The port's calls, each by one step of what it stores.
 ghost use Rattle.std.specs.Prelude.{refl};
-ghost use Rattle.pic_machine.specs.Final.{IsFinal};
+ghost use Rattle.pic_machine.specs.Final.{IsBusy};
 ghost use Rattle.pic_machine.specs.Step.{IsLive};
-ghost use Rattle.pic_machine.specs.History.{origin_of, world};
-ghost use Rattle.port_plain.specs.Shown.{sight_of};
+ghost use Rattle.pic_machine.specs.History.{world};
+ghost use Rattle.port_plain.specs.Shown.{origin_in, sight_of};
 
 use crate::plain::{PlainPort, reply};
 use pic_base::{CompNo, FiberNo, Outcome, Value};
-use pic_machine::{
-    Call, Carried, ClaimRefusal, CompleteReply, Entry, Idle, Port, PortFault, Reply,
-};
+use pic_machine::{Call, Carried, ClaimRefusal, CompleteReply, Idle, Port, PortFault, Reply};
 
 impl<B: Carried + Send> Port for PlainPort<B> {
     type Body = B;
@@ -17,10 +15,10 @@ impl<B: Carried + Send> Port for PlainPort<B> {
     ghost sight = { sight_of B.seen };
 
     // The fiber isn't live.
-    ghost missed = { λ port f. IsLive (world (origin_of port.start) port.front) f → ⊥ };
+    ghost missed = { λ port f. IsLive (world (origin_in B.seen port) port.front) f → ⊥ };
 
-    // Something is left to do.
-    ghost busy = { λ port. IsFinal (world (origin_of port.start) port.front) → ⊥ };
+    // A fiber is live, or one owes.
+    ghost busy = { λ port. IsBusy (world (origin_in B.seen port) port.front) };
 
     fn contended(&self) -> u64 {
         0
@@ -57,19 +55,11 @@ impl<B: Carried + Send> Port for PlainPort<B> {
         let call = Call::Fork { text, value };
         match self.make_fiber(fiber, text, value, child) {
             Ok(number) => {
-                body.note(Entry {
-                    fiber,
-                    call,
-                    reply: Reply::Made(number),
-                });
+                body.note(call, Reply::Made(number));
                 Ok(number)
             }
             Err((child, PortFault::Full)) => {
-                body.note(Entry {
-                    fiber,
-                    call,
-                    reply: Reply::Full,
-                });
+                body.note(call, Reply::Full);
                 Err((child, PortFault::Full))
             }
             Err((child, PortFault::Again)) => Err((child, PortFault::Again)),

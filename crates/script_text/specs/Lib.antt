@@ -1,5 +1,4 @@
 pub mod Faults
 pub mod Lines
-pub mod Refusal
 pub mod Scan
 pub mod Spans

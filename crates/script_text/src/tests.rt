@@ -62,6 +62,5 @@ fn a_line_has_at_most_200_bytes(rt: HostRuntime) -> Result<(), Fail> {
     text.push(128)?;
     let long = TokenRefusal::LongLine { line: 1 };
     assert_eq!(rt; tokens(rt.alloc(), text.as_slice()).err(), Some(long));
-    assert_eq!(rt; long.to_string(rt.alloc())?.as_str(), "line 1 is too long");
     Ok(())
 }

@@ -16,8 +16,8 @@ use Rattle.script_tree.specs.Reading.{State, Frame, frame, outermost, inside, is
 use Rattle.script_tree.proofs.Elements.{set_keeps, push_keeps}
 use Rattle.script_tree.proofs.Lasting.{all_push}
 use Rattle.script_tree.proofs.Levelling.{levels_after, Leveled, Extends, next_block, next_event}
-use Rattle.script_tree.proofs.Moves.{Moves, declares, begins_fiber, begins_main, states, adds_leaf, opens, opens_select, opens_group, begins_else, begins_catch, ends_text, ends_block, ends_select, ends_group, IsGroup, Groups, Ends, a_text, the_main}
-use Rattle.script_tree.proofs.Moving.{becomes_holds}
+use Rattle.script_tree.proofs.Moves.{Moves, declares, begins_fiber, begins_main, states, adds_leaf, opens, opens_select, opens_group, begins_else, begins_catch, ends_text, ends_block, ends_select, ends_group, IsGroup, Groups, Ends}
+use Rattle.script_tree.proofs.Moving.{becomes_holds, ends_holds}
 use Rattle.script_tree.proofs.AtLevels.{OpenStands, own_block, block_open, select_open, group_open, group_level, behind_open, becomes_stands, events_at, groups_stand, own_event, stated_stands, leaf_stands, shallow_inside, shallow_outermost}
 
 -- the statements of the block at a place stand at its level, and so an event
@@ -52,10 +52,6 @@ pub record AllStands (s : State) (made levels : Levels) : Type 0 where
 -- a level is the one that is there
 same_level : (levels : List Level) (place : ℕ) (level other : Level) → IsAt levels level place → IsAt levels other place → level ≡ other
 same_level levels place level other a b = same_Some level other (sym a ∙ b)
-
-ends_holds : (o behind : Opener) → Ends o behind → holds_statements o ≡ true
-ends_holds o behind a_text = refl
-ends_holds o behind the_main = refl
 
 module _ (s : State) (made levels : Levels) (l : Leveled s made) (h : AllStands s made levels) where
   -- ---- blocks

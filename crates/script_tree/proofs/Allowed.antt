@@ -1,7 +1,6 @@
 -- Which lines may stand in what is open.
-use Rattle.std.proofs.Common.{◌≡◌, ℕ, ◌<◌, Bool, true, false, cond, not, ◌&&◌, ◌||◌, nat_le, Option, Some, None, Result, Ok, Err, List, ◌⊎◌, inl, inr, refl, subst}
+use Rattle.std.proofs.Common.{◌≡◌, ℕ, ◌<◌, Bool, true, false, cond, not, ◌&&◌, ◌||◌, nat_le, Some, None, Ok, List, ◌⊎◌, inl, inr, refl, subst}
 use Rattle.std.proofs.lemmas.Bool.{leb-false}
-use Rattle.script_tree.specs.declared.cause.Cause.{Cause}
 use Rattle.script_tree.specs.declared.cause.Cause.TheVariants as cause
 use Rattle.script_tree.specs.declared.form.Form.{Form}
 use Rattle.script_tree.specs.declared.form.Form.TheVariants as form
@@ -15,11 +14,11 @@ use Rattle.script_tree.specs.declared.line.Line.{Line}
 use Rattle.script_tree.specs.declared.line.Line.TheVariants as line
 use Rattle.script_tree.specs.declared.opener.Opener.{Opener}
 use Rattle.script_tree.specs.declared.opener.Opener.TheVariants as opener
-use Rattle.script_tree.specs.Forms.{Seen, form_of, shapes}
-use Rattle.script_tree.specs.Grammar.{line_of_parts, line_seen, line_read}
+use Rattle.script_tree.specs.Grammar.{line_read}
 use Rattle.script_tree.specs.Lines.{line_made, block_form_made, group_form_made}
-use Rattle.script_tree.specs.Parts.{Part, words_read}
+use Rattle.script_tree.specs.Parts.{Part}
 use Rattle.script_tree.specs.Reading.{State, fits, is_head, is_between, is_over, is_then, is_try, is_group, is_bundle, is_deep, is_full, limit_broken, holds_events, holds_statements}
+use Rattle.script_tree.proofs.Readings.{is_read}
 
 -- the line may stand in this
 abbrev pub May : Opener → Line → Type 0
@@ -43,58 +42,22 @@ basic_may o breaks _ h = h
 
 block_may : (o : Opener) (f : BlockForm) (parts : List Part) → holds_statements o ≡ true → May o (line.Open (block_form_made f parts))
 block_may o block_form.If parts h = h
-block_may o block_form.Loop parts h = h
-block_may o block_form.Try parts h = h
-block_may o block_form.Forbid parts h = h
-block_may o block_form.Permit parts h = h
-block_may o block_form.Under parts h = h
-block_may o block_form.Link parts h = h
-block_may o block_form.Protect parts h = h
-block_may o block_form.Bundle parts h = h
-block_may o block_form.Flock parts h = h
-block_may o block_form.Select parts h = h
+block_may o _ parts h = h
 
 group_may : (o : Opener) (f : GroupForm) (parts : List Part) → holds_events o ≡ true → May o (line.Open (group_form_made f parts))
 group_may o group_form.Choose parts h = h
-group_may o group_form.Wrap parts h = h
-group_may o group_form.Guard parts h = h
+group_may o _ parts h = h
 
 made_may : (o : Opener) (breaks : Bool) (f : Form) (parts : List Part) → fits o breaks f ≡ true → May o (line_made f parts)
-made_may o breaks (form.Declare f) parts h = h
-made_may o breaks form.Fiber parts h = h
-made_may o breaks form.Main parts h = h
-made_may o breaks form.End parts h = h
-made_may o breaks form.Else parts h = h
-made_may o breaks form.Catch parts h = h
 made_may o breaks (form.Basic f) parts h = basic_may o breaks f h
-made_may o breaks (form.Comp f) parts h = h
-made_may o breaks (form.Object f) parts h = h
-made_may o breaks (form.Fork f) parts h = h
 made_may o breaks (form.Block f) parts h = block_may o f parts h
-made_may o breaks (form.Event f) parts h = h
 made_may o breaks (form.Group f) parts h = group_may o f parts h
-
-of_parts_may : (o : Opener) (breaks : Bool) (f : Form) (r : Result (List Part) Cause) (l : Line) → fits o breaks f ≡ true → line_of_parts f r ≡ Ok l → May o l
-of_parts_may o breaks f (Err c) l h e = cc
-of_parts_may o breaks f (Ok parts) l h e = let is : line_made f parts ≡ l = cc in subst (λ m. May o m) is (made_may o breaks f parts h)
-
-chosen_may : (o : Opener) (breaks b : Bool) (f : Form) (r : Result (List Part) Cause) (l : Line) → fits o breaks f ≡ b
-    → cond b (line_of_parts f r) (Err cause.Word) ≡ Ok l → May o l
-chosen_may o breaks true f r l h e = of_parts_may o breaks f r l h e
-chosen_may o breaks false f r l h e = cc
-
-seen_may : (s : State) (seen : Option Seen) (l : Line) → line_seen s seen ≡ Ok l → May s.top.what l
-seen_may s None l e = cc
-seen_may s (Some seen) l e =
-    chosen_may s.top.what s.top.level.breaks (fits s.top.what s.top.level.breaks seen.form) seen.form (words_read s.names (shapes seen.form) seen.rest) l refl e
-
-before_over : (s : State) (b : Bool) (words : List (List ℕ)) (l : Line) → cond b (Err cause.AfterMain) (line_seen s (form_of words)) ≡ Ok l → May s.top.what l
-before_over s true words l e = cc
-before_over s false words l e = seen_may s (form_of words) l e
+made_may o breaks _ parts h = h
 
 -- a line that was read may stand there
 pub read_may : (s : State) (words : List (List ℕ)) (l : Line) → line_read s s.top.what words ≡ Ok l → May s.top.what l
-read_may s words l e = before_over s (is_over s.top.what) words l e
+read_may s words l e =
+    let r = is_read s words l e in subst (λ k. May s.top.what k) r.is (made_may s.top.what s.top.level.breaks r.form r.parts r.fit)
 
 -- ---- depth
 

@@ -22,64 +22,27 @@ use Rattle.script_tree.specs.Levels.{Levels, IsAt, IsShallow, AreEventsAt, StmtS
 use Rattle.script_tree.specs.Lines.{basic_form_made, comp_form_made, object_form_made, fiber_form_made, event_form_made}
 use Rattle.script_tree.specs.Parts.{Part}
 use Rattle.script_tree.specs.Reading.{State, outermost, inside, is_deep, is_bundle, bundle_count, holds_statements}
-use Rattle.script_tree.proofs.Moves.{is_break, IsStated, basic, on_comps, on_objects, on_fibers, opens_block, IsBlock, a_block, IsSelect, a_select, IsGroup, a_group, Becomes, a_then, an_else, a_loop, a_handler, a_forbid, a_permit, an_under, a_link, a_protect, a_bundle, a_flock, Groups, a_choose, a_wrap, a_guard, Ends, a_text, the_main}
+use Rattle.script_tree.proofs.Moves.{is_break, IsStated, basic, on_comps, on_objects, on_fibers, opens_block, IsBlock, a_block, IsSelect, a_select, IsGroup, a_group, Becomes, a_then, an_else, a_handler, Groups, a_choose, Ends, a_text, the_main}
 
 -- ---- statements that are lines
 
 basic_stands : (levels : Levels) (level : Level) (f : BasicForm) (parts : List Part) → (is_break (basic_form_made f parts) ≡ true → level.breaks ≡ true)
     → StmtStands levels level (basic_form_made f parts)
 basic_stands levels level basic_form.Set parts h = tt
-basic_stands levels level basic_form.Add parts h = tt
-basic_stands levels level basic_form.Sub parts h = tt
-basic_stands levels level basic_form.Mul parts h = tt
-basic_stands levels level basic_form.Words parts h = tt
-basic_stands levels level basic_form.Len parts h = tt
-basic_stands levels level basic_form.Put parts h = tt
-basic_stands levels level basic_form.Get parts h = tt
-basic_stands levels level basic_form.Say parts h = tt
-basic_stands levels level basic_form.Raise parts h = tt
 basic_stands levels level basic_form.Break parts h = h refl
-basic_stands levels level basic_form.Yield parts h = tt
-basic_stands levels level basic_form.Check parts h = tt
+basic_stands levels level _ parts h = tt
 
 comp_stands : (levels : Levels) (level : Level) (f : CompForm) (parts : List Part) → StmtStands levels level (comp_form_made f parts)
 comp_stands levels level comp_form.Signal parts = tt
-comp_stands levels level comp_form.Await parts = tt
-comp_stands levels level comp_form.Attach parts = tt
-comp_stands levels level comp_form.Detach parts = tt
-comp_stands levels level comp_form.Return parts = tt
-comp_stands levels level comp_form.Cancel parts = tt
-comp_stands levels level comp_form.Peek parts = tt
-comp_stands levels level comp_form.Wait parts = tt
-comp_stands levels level comp_form.After parts = tt
+comp_stands levels level _ parts = tt
 
 object_stands : (levels : Levels) (level : Level) (f : ObjectForm) (parts : List Part) → StmtStands levels level (object_form_made f parts)
 object_stands levels level object_form.Lock parts = tt
-object_stands levels level object_form.TryLock parts = tt
-object_stands levels level object_form.Unlock parts = tt
-object_stands levels level object_form.WaitCond parts = tt
-object_stands levels level object_form.Notify parts = tt
-object_stands levels level object_form.Broadcast parts = tt
-object_stands levels level object_form.Acquire parts = tt
-object_stands levels level object_form.TryAcquire parts = tt
-object_stands levels level object_form.Release parts = tt
-object_stands levels level object_form.Decr parts = tt
-object_stands levels level object_form.Incr parts = tt
-object_stands levels level object_form.AwaitLatch parts = tt
-object_stands levels level object_form.Fill parts = tt
-object_stands levels level object_form.Poison parts = tt
-object_stands levels level object_form.Read parts = tt
-object_stands levels level object_form.Push parts = tt
-object_stands levels level object_form.Tap parts = tt
-object_stands levels level object_form.Next parts = tt
-object_stands levels level object_form.Line parts = tt
+object_stands levels level _ parts = tt
 
 fiber_stands : (levels : Levels) (level : Level) (f : FiberForm) (parts : List Part) → StmtStands levels level (fiber_form_made f parts)
 fiber_stands levels level fiber_form.Spawn parts = tt
-fiber_stands levels level fiber_form.Fork parts = tt
-fiber_stands levels level fiber_form.Promise parts = tt
-fiber_stands levels level fiber_form.Terminate parts = tt
-fiber_stands levels level fiber_form.Error parts = tt
+fiber_stands levels level _ parts = tt
 
 -- a statement that is a line of its own
 pub stated_stands : (s : State) (levels : Levels) (level : Level) (x : Stmt) → IsStated s x → (is_break x ≡ true → level.breaks ≡ true) → StmtStands levels level x
@@ -91,10 +54,7 @@ stated_stands s levels level x (on_fibers f parts p) h = fiber_stands levels lev
 -- an event alone
 pub leaf_stands : (levels : Levels) (level : Level) (f : EventForm) (parts : List Part) → EventStands levels level (event_form_made f parts)
 leaf_stands levels level event_form.Ivar parts = tt
-leaf_stands levels level event_form.Latch parts = tt
-leaf_stands levels level event_form.Stream parts = tt
-leaf_stands levels level event_form.Done parts = tt
-leaf_stands levels level event_form.Always parts = tt
+leaf_stands levels level _ parts = tt
 
 -- ---- what is open
 
@@ -151,13 +111,11 @@ select_open s levels around o place (a_select n v f parts p is) = refl
 pub group_open : (s : State) (levels : Levels) (around : Level) (o : Opener) (place : ℕ) → IsGroup s o → IsAt levels.events around place
     → OpenStands levels around o (inside around o) place
 group_open s levels around o place (a_group group_form.Choose parts p) at = (refl, at)
-group_open s levels around o place (a_group group_form.Wrap parts p) at = (refl, at)
-group_open s levels around o place (a_group group_form.Guard parts p) at = (refl, at)
+group_open s levels around o place _ at = (refl, at)
 
 pub group_level : (s : State) (level : Level) (o : Opener) → IsGroup s o → inside level o ≡ inside level opener.Choose
 group_level s level o (a_group group_form.Choose parts p) = refl
-group_level s level o (a_group group_form.Wrap parts p) = refl
-group_level s level o (a_group group_form.Guard parts p) = refl
+group_level s level o _ = refl
 
 pub behind_open : (levels : Levels) (around level : Level) (o behind : Opener) (place : ℕ) → Ends o behind → OpenStands levels around behind level place
 behind_open levels around level o behind place a_text = tt
@@ -170,16 +128,9 @@ pub becomes_stands : (levels : Levels) (around level : Level) (place : ℕ) (o :
 becomes_stands levels around level place o x a_then f = (subst (λ k. IsAt levels.blocks k place) f.0 f.1, tt)
 becomes_stands levels around level place o x (an_else {then_place = first}) f =
     (subst (λ k. IsAt levels.blocks k first) f.0 f.2, subst (λ k. IsAt levels.blocks k place) f.0 f.1)
-becomes_stands levels around level place o x a_loop f = subst (λ k. IsAt levels.blocks k place) f.0 f.1
 becomes_stands levels around level place o x (a_handler {body = first}) f =
     (subst (λ k. IsAt levels.blocks k first) f.0 f.2, subst (λ k. IsAt levels.blocks k place) f.0 f.1)
-becomes_stands levels around level place o x a_forbid f = subst (λ k. IsAt levels.blocks k place) f.0 f.1
-becomes_stands levels around level place o x a_permit f = subst (λ k. IsAt levels.blocks k place) f.0 f.1
-becomes_stands levels around level place o x an_under f = subst (λ k. IsAt levels.blocks k place) f.0 f.1
-becomes_stands levels around level place o x a_link f = subst (λ k. IsAt levels.blocks k place) f.0 f.1
-becomes_stands levels around level place o x a_protect f = subst (λ k. IsAt levels.blocks k place) f.0 f.1
-becomes_stands levels around level place o x a_bundle f = subst (λ k. IsAt levels.blocks k place) f.0 f.1
-becomes_stands levels around level place o x a_flock f = subst (λ k. IsAt levels.blocks k place) f.0 f.1
+becomes_stands levels around level place o x _ f = subst (λ k. IsAt levels.blocks k place) f.0 f.1
 
 -- events in something of the level that is that of what ends
 pub events_at : (levels : Levels) (level inner : Level) (members : List ℕ) → level ≡ inner → IsShallow level
@@ -189,15 +140,13 @@ events_at levels level inner members e shallow all = subst (λ k. AreEventsAt le
 pub groups_stand : (levels : Levels) (around level : Level) (place : ℕ) (members : List ℕ) (o : Opener) (e : EventTree) → Groups members o e
     → OpenStands levels around o level place → IsShallow level → AllByRecursion (IsAt levels.events level) members → EventStands levels around e
 groups_stand levels around level place members o e a_choose f shallow all = events_at levels level _ members f.0 shallow all
-groups_stand levels around level place members o e a_wrap f shallow all = events_at levels level _ members f.0 shallow all
-groups_stand levels around level place members o e a_guard f shallow all = events_at levels level _ members f.0 shallow all
+groups_stand levels around level place members o e _ f shallow all = events_at levels level _ members f.0 shallow all
 
 -- the place of a group of events
 pub own_event : (levels : Levels) (around level : Level) (place : ℕ) (members : List ℕ) (o : Opener) (e : EventTree) → Groups members o e
     → OpenStands levels around o level place → IsAt levels.events around place
 own_event levels around level place members o e a_choose f = f.1
-own_event levels around level place members o e a_wrap f = f.1
-own_event levels around level place members o e a_guard f = f.1
+own_event levels around level place members o e _ f = f.1
 
 -- ---- one block more
 

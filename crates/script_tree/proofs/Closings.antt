@@ -9,14 +9,15 @@ use Rattle.script_tree.specs.declared.program.Stmt.{Stmt}
 use Rattle.script_tree.specs.declared.program.Stmt.TheVariants as stmt
 use Rattle.script_tree.specs.Canon.{opening, ending, event_text, events_text, stmts_text, stmt_text, block_text}
 use Rattle.script_tree.specs.Parts.{Part, name_part}
-use Rattle.script_tree.specs.Reading.{State, Frame, closed, part_begun, left, with_stmt, with_event, is_group, holds_statements}
+use Rattle.script_tree.specs.Reading.{State, Frame, part_begun, left, with_stmt, with_event, is_group, holds_statements}
 use Rattle.script_tree.specs.Spelling.{line_text}
 use Rattle.script_tree.specs.Tree.{Tree}
-use Rattle.script_tree.proofs.OpenGroups.{open_groups}
+use Rattle.script_tree.proofs.Descending.{descends_less}
+use Rattle.script_tree.proofs.Groups.{open_groups}
 use Rattle.script_tree.proofs.Paths.{open_blocks, Descends}
 use Rattle.script_tree.proofs.Settled.{Settles}
 use Rattle.script_tree.proofs.Standing.{Around, fiber, main, block, select, group, in_file, behind, in_block, in_events, Goes, is_block, begun, stmts_shown, events_shown, file_shown, whole_shown, stmts_push, events_push, file_more, whole_last}
-use Rattle.script_tree.proofs.Staying.{AreIn, closed_in, exchanged_in, descends_first, descends_less}
+use Rattle.script_tree.proofs.Staying.{AreIn, closed_in, exchanged_in, descends_first}
 
 -- ---- how texts are put together
 
@@ -60,9 +61,6 @@ pub block_closes : (tree : Tree) (s : State) (o : Opener) (x : Stmt) (place : �
     → Settles (left s (set s.blocks s.top.place s.top.stmts) s.events (λ f. with_stmt f x) outer) tree
     → depth ≤ 33 → Around tree s.decls s.texts o place outer depth levels front → text ≡ front ++ stmts_shown tree depth levels s.top.stmts
     → Goes tree (left s (set s.blocks s.top.place s.top.stmts) s.events (λ f. with_stmt f x) outer) text (Some form.End) []
-block_closes tree s o x place outer depth levels front text b h wraps descend settle deep (fiber closed t f fs e n) i = cc
-block_closes tree s o x place outer depth levels front text b h wraps descend settle deep (main closed t f fs e n) i = cc
-block_closes tree s o x place outer depth levels front text b h wraps descend settle deep (select p q r f fs d n w hf l a) i = cc
 block_closes tree s o x place outer depth levels front text b h wraps descend settle deep (group p q f fs d n w g hf l a) i = absurd (group_no_block p g b)
 block_closes tree s o x place outer depth levels front text b h wraps descend settle deep (block p q f fs d n w b2 hf l a) i =
     let there : slice_get tree.blocks s.top.place ≡ Some s.top.stmts = closed_block tree s f fs h descend settle.blocks in
@@ -74,6 +72,7 @@ block_closes tree s o x place outer depth levels front text b h wraps descend se
           (stmts_push tree d (suc n) f.stmts x)
           (wraps d (suc n) ∙ ap (λ ys. begun tree d (suc n) p ++ (ys ++ ending tree d)) (block_is tree (d + 1) n s.top.place s.top.stmts there)));
     }
+block_closes tree s o x place outer depth levels front text b h wraps descend settle deep _ i = cc
 
 -- ---- texts
 
@@ -147,9 +146,6 @@ pub group_closes : (tree : Tree) (s : State) (o : Opener) (x : EventTree) (place
     → Settles (left s s.blocks (set s.events s.top.place x) (λ f. with_event f s.top.place) outer) tree
     → depth ≤ 33 → Around tree s.decls s.texts o place outer depth levels front → text ≡ front ++ events_shown tree depth levels s.top.events
     → Goes tree (left s s.blocks (set s.events s.top.place x) (λ f. with_event f s.top.place) outer) text (Some form.End) []
-group_closes tree s o x place outer depth levels front text g h wraps descend settle deep (fiber closed t f fs e n) i = cc
-group_closes tree s o x place outer depth levels front text g h wraps descend settle deep (main closed t f fs e n) i = cc
-group_closes tree s o x place outer depth levels front text g h wraps descend settle deep (select p q r f fs d n w hf l a) i = cc
 group_closes tree s o x place outer depth levels front text g h wraps descend settle deep (block p q f fs d n w b hf l a) i = absurd (group_no_block p g b)
 group_closes tree s o x place outer depth levels front text g h wraps descend settle deep (group p q f fs d n w g2 hf l a) i =
     let inner = descends_first (is_group s.top.what) (length s.events) s.top.place (open_groups (f ∷ fs)) h descend in
@@ -162,6 +158,7 @@ group_closes tree s o x place outer depth levels front text g h wraps descend se
           (events_push tree d (suc n) f.events s.top.place)
           (ap (λ o. event_text (events_text (suc n) tree (d + 1)) tree d o) there ∙ wraps d (suc n)));
     }
+group_closes tree s o x place outer depth levels front text g h wraps descend settle deep _ i = cc
 
 -- ---- the second part of a block
 
@@ -172,9 +169,6 @@ pub part_goes : (tree : Tree) (s : State) (o after : Opener) (f2 : Form) (parts 
     → AreIn (set s.blocks s.top.place s.top.stmts ++ [] ∷ []) (length s.blocks ∷ open_blocks outer) tree.blocks
     → s.top.level.depth + 1 ≡ depth → depth ≤ 33 → Around tree s.decls s.texts o place outer depth levels front → text ≡ front ++ stmts_shown tree depth levels s.top.stmts
     → outer ≡ s.outer → Goes tree (part_begun s after) text (Some f2) parts
-part_goes tree s o after f2 parts place outer depth levels front text b b2 ha h comes descend settle level deep (fiber closed t f fs e n) i same = cc
-part_goes tree s o after f2 parts place outer depth levels front text b b2 ha h comes descend settle level deep (main closed t f fs e n) i same = cc
-part_goes tree s o after f2 parts place outer depth levels front text b b2 ha h comes descend settle level deep (select p q r f fs d n w hf l a) i same = cc
 part_goes tree s o after f2 parts place outer depth levels front text b b2 ha h comes descend settle level deep (group p q f fs d n w g hf l a) i same = absurd (group_no_block p g b)
 part_goes tree s o after f2 parts place outer depth levels front text b b2 ha h comes descend settle level deep (block p q f fs d n w b3 hf l a) i same =
     let inner = descends_first (holds_statements s.top.what) (length s.blocks) s.top.place (open_blocks (f ∷ fs)) h descend in
@@ -188,3 +182,4 @@ part_goes tree s o after f2 parts place outer depth levels front text b b2 ha h 
           (changes text w (stmts_shown tree d (suc n) f.stmts) (begun tree d (suc n) p) (stmts_shown tree (d + 1) n s.top.stmts) (line_text tree d f2 parts) (begun tree d (suc n) after) i
           (comes d (suc n) ∙ ap (λ ys. begun tree d (suc n) p ++ (ys ++ line_text tree d f2 parts)) (block_is tree (d + 1) n s.top.place s.top.stmts there)));
     }
+part_goes tree s o after f2 parts place outer depth levels front text b b2 ha h comes descend settle level deep _ i same = cc

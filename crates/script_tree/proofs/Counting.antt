@@ -13,7 +13,7 @@ use Rattle.script_tree.specs.Reading.{State, counted, is_kind_full}
 use Rattle.script_tree.specs.WellFormed.{how_many}
 use Rattle.script_tree.proofs.Mains.{main_count, TextsMove, same_texts, a_fiber, main_begun, file_mains}
 use Rattle.script_tree.proofs.Nesting.{IsNested}
-use Rattle.script_tree.proofs.Moves.{Moves, declares, begins_fiber, begins_main, states, adds_leaf, opens, opens_select, opens_group, begins_else, begins_catch, ends_text, ends_block, ends_select, ends_group}
+use Rattle.script_tree.proofs.Moves.{Moves, declares, begins_fiber, begins_main, states, adds_leaf, opens, opens_select}
 
 -- ---- declarations
 
@@ -103,19 +103,11 @@ same_decls counts new decls a b c f = record {
 
 pub moves_decls : (s : State) {t : State} → Moves s t → FewDecls s.counts s.decls → FewDecls t.counts t.decls
 moves_decls s (declares f parts p h full) c = few_declared s.counts s.decls (name_in (part_at parts 0)) (kind_made f parts) full c
-moves_decls s (begins_fiber parts p h full) c = c
-moves_decls s (begins_main h) c = c
 moves_decls s (states x p h full breaks) c = same_decls s.counts _ s.decls refl refl refl c
 moves_decls s (adds_leaf f parts p h few) c = same_decls s.counts _ s.decls refl refl refl c
 moves_decls s (opens o p h full deep) c = same_decls s.counts _ s.decls refl refl refl c
 moves_decls s (opens_select o p h full deep) c = same_decls s.counts _ s.decls refl refl refl c
-moves_decls s (opens_group o p h deep) c = c
-moves_decls s (begins_else a q b is) c = c
-moves_decls s (begins_catch parts p is) c = c
-moves_decls s (ends_text f behind e h ends) c = c
-moves_decls s (ends_block f fs x e h becomes) c = c
-moves_decls s (ends_select f fs number value e h is) c = c
-moves_decls s (ends_group f fs x e h groups) c = c
+moves_decls s _ c = c
 
 -- ---- texts
 
@@ -143,12 +135,4 @@ moves_texts s (begins_main h) m n c =
     let more = length-append s.texts (record { name = codes "main"; block = length s.blocks } ∷ []) in omega (arith, none, more, c)
 moves_texts s (states x p h full breaks) m n c = c
 moves_texts s (adds_leaf f parts p h few) m n c = c
-moves_texts s (opens o p h full deep) m n c = kept_texts s _ m refl c
-moves_texts s (opens_select o p h full deep) m n c = kept_texts s _ m refl c
-moves_texts s (opens_group o p h deep) m n c = kept_texts s _ m refl c
-moves_texts s (begins_else a q b is) m n c = kept_texts s _ m refl c
-moves_texts s (begins_catch parts p is) m n c = kept_texts s _ m refl c
-moves_texts s (ends_text f behind e h ends) m n c = kept_texts s _ m refl c
-moves_texts s (ends_block f fs x e h becomes) m n c = kept_texts s _ m refl c
-moves_texts s (ends_select f fs number value e h is) m n c = kept_texts s _ m refl c
-moves_texts s (ends_group f fs x e h groups) m n c = kept_texts s _ m refl c
+moves_texts s _ m n c = kept_texts s _ m refl c

@@ -1,5 +1,5 @@
 -- The names of declarations are names, texts have their blocks, and the last text is main's.
-use Rattle.std.proofs.Common.{◌≡◌, ◌<◌, ◌≤◌, ◌∙◌, IsTrue, List, [], ◌∷◌, ◌++◌, length, codes, arith, length-append, refl, sym, not-suc-le-zero}
+use Rattle.std.proofs.Common.{◌≡◌, ◌≤◌, ◌∙◌, List, [], ◌∷◌, ◌++◌, length, codes, arith, length-append, refl, sym, not-suc-le-zero}
 use Rattle.std.specs.List.{AllByRecursion}
 use Rattle.script_tree.specs.declared.form.DeclForm.{DeclForm}
 use Rattle.script_tree.specs.declared.form.DeclForm.TheVariants as decl_form
@@ -10,8 +10,9 @@ use Rattle.script_tree.specs.Lines.{kind_made, name_in, part_at}
 use Rattle.script_tree.specs.Parts.{Part}
 use Rattle.script_tree.specs.Reading.{State}
 use Rattle.script_tree.specs.Tree.{Tree}
-use Rattle.script_tree.specs.WellFormed.{DeclFits, EndsInMain}
-use Rattle.script_tree.specs.Words.{is_name}
+use Rattle.script_tree.specs.WellFormed.{DeclFits, EndsInMain, TextFits}
+use Rattle.script_tree.specs.Words.{class}
+use Rattle.script_tree.specs.declared.class.Class.TheVariants as class_is
 use Rattle.script_tree.proofs.Fitting.{NamesFit}
 use Rattle.script_tree.proofs.Lasting.{LastsIn, all_push}
 use Rattle.script_tree.proofs.Mains.{main_count, TextsMove, same_texts, a_fiber, main_begun}
@@ -21,23 +22,17 @@ use Rattle.script_tree.proofs.StatementsFit.{AreFor, are_for}
 -- declarations have names, and texts blocks of the tree
 pub record Declares (s : State) (tree : Tree) : Type 0 where
   pub decls : AllByRecursion DeclFits s.decls
-  pub texts : AllByRecursion (λ (t : Text). t.block < length tree.blocks) s.texts
+  pub texts : AllByRecursion (TextFits tree) s.texts
 
-declared_name : (tree : Tree) (f : DeclForm) (parts : List Part) → AreFor tree (form.Declare f) parts → IsTrue (is_name (name_in (part_at parts 0)))
+declared_name : (tree : Tree) (f : DeclForm) (parts : List Part) → AreFor tree (form.Declare f) parts → class (name_in (part_at parts 0)) ≡ class_is.Name
 declared_name tree decl_form.Trigger parts r = r.0
-declared_name tree decl_form.Comp parts r = r.0
-declared_name tree decl_form.Mutex parts r = r.0
-declared_name tree decl_form.Cond parts r = r.0
-declared_name tree decl_form.Sem parts r = r.0
-declared_name tree decl_form.Latch parts r = r.0
-declared_name tree decl_form.Ivar parts r = r.0
-declared_name tree decl_form.Stream parts r = r.0
+declared_name tree _ parts r = r.0
 
 -- a text begins with a block of its own
-text_begins : (s : State) (tree : Tree) (text : Text) → text.block ≡ length s.blocks → length (s.blocks ++ [] ∷ []) ≤ length tree.blocks
-    → AllByRecursion (λ (t : Text). t.block < length tree.blocks) s.texts → AllByRecursion (λ (t : Text). t.block < length tree.blocks) (s.texts ++ text ∷ [])
-text_begins s tree text e l h =
-    let m = length-append s.blocks ([] ∷ []) in all_push (λ (t : Text). t.block < length tree.blocks) s.texts text h (omega (arith, e, l, m))
+text_begins : (s : State) (tree : Tree) (text : Text) → class text.name ≡ class_is.Name → text.block ≡ length s.blocks → length (s.blocks ++ [] ∷ []) ≤ length tree.blocks
+    → AllByRecursion (TextFits tree) s.texts → AllByRecursion (TextFits tree) (s.texts ++ text ∷ [])
+text_begins s tree text n e l h =
+    let m = length-append s.blocks ([] ∷ []) in all_push (TextFits tree) s.texts text h (n, omega (arith, e, l, m))
 
 pub moves_declare : (s : State) {t : State} (tree : Tree) → NamesFit tree s.names → Moves s t → LastsIn t tree → Declares s tree → Declares t tree
 moves_declare s tree known (declares f parts p h full) l d = record {
@@ -46,9 +41,9 @@ moves_declare s tree known (declares f parts p h full) l d = record {
   texts = d.texts;
 }
 moves_declare s tree known (begins_fiber parts p h full) l d =
-    record { decls = d.decls; texts = text_begins s tree (record { name = name_in (part_at parts 0); block = length s.blocks }) refl l.blocks d.texts }
+    record { decls = d.decls; texts = text_begins s tree (record { name = name_in (part_at parts 0); block = length s.blocks }) (are_for s tree form.Fiber parts known p).0 refl l.blocks d.texts }
 moves_declare s tree known (begins_main h) l d =
-    record { decls = d.decls; texts = text_begins s tree (record { name = codes "main"; block = length s.blocks }) refl l.blocks d.texts }
+    record { decls = d.decls; texts = text_begins s tree (record { name = codes "main"; block = length s.blocks }) refl refl l.blocks d.texts }
 moves_declare s tree known (states x p h full breaks) l d = record { decls = d.decls; texts = d.texts }
 moves_declare s tree known (adds_leaf f parts p h few) l d = record { decls = d.decls; texts = d.texts }
 moves_declare s tree known (opens o p h full deep) l d = record { decls = d.decls; texts = d.texts }

@@ -6,7 +6,7 @@ use Rattle.script_tree.specs.declared.program.Stmt.{Stmt}
 use Rattle.script_tree.specs.declared.form.GroupForm.TheVariants as group_form
 use Rattle.script_tree.specs.Lines.{number_in, part_at}
 use Rattle.script_tree.specs.Reading.{State, Frame, holds_statements, frame, outermost, inside}
-use Rattle.script_tree.proofs.Moves.{Moves, declares, begins_fiber, begins_main, states, adds_leaf, opens, opens_select, opens_group, begins_else, begins_catch, ends_text, ends_block, ends_select, ends_group, IsSelect, a_select, IsGroup, a_group, Ends, a_text, the_main}
+use Rattle.script_tree.proofs.Moves.{Moves, begins_fiber, begins_main, opens, opens_select, opens_group, begins_else, begins_catch, ends_text, ends_block, ends_select, ends_group, IsSelect, a_select, IsGroup, a_group, Ends, a_text, the_main}
 use Rattle.script_tree.proofs.Moving.{moves}
 use Rattle.script_tree.proofs.Pathways.{path_nested}
 use Rattle.script_tree.proofs.Paths.{Path, begin, more, open_blocks, Descends, BlocksDescend}
@@ -15,12 +15,13 @@ pub descends_up : (a b : ℕ) (places : List ℕ) → a ≤ b → Descends a pla
 descends_up a b [] h d = tt
 descends_up a b (p ∷ ps) h d = (lt_of_lt_of_le d.0 h, d.1)
 
-without_top : (bound place : ℕ) (places : List ℕ) (b : Bool) → Descends bound (cond b (place ∷ places) places) → Descends bound places
-without_top bound place places true d = let e : Descends bound (place ∷ places) = d in descends_up place bound places (omega (arith, e.0)) e.1
-without_top bound place places false d = d
+-- without the first place
+pub descends_less : (b : Bool) (bound p : ℕ) (places : List ℕ) → Descends bound (cond b (p ∷ places) places) → Descends bound places
+descends_less true bound p places d = descends_up p bound places (omega (arith, d.0)) d.1
+descends_less false bound p places d = d
 
 pub around_descend : (bound : ℕ) (f : Frame) (fs : List Frame) → Descends bound (open_blocks (f ∷ fs)) → Descends bound (open_blocks fs)
-around_descend bound f fs d = without_top bound f.place (open_blocks fs) (holds_statements f.what) d
+around_descend bound f fs d = descends_less (holds_statements f.what) bound f.place (open_blocks fs) d
 
 -- the innermost block and what is around it
 pub inner_descend : (bound : ℕ) (f : Frame) (fs : List Frame) → holds_statements f.what ≡ true → Descends bound (open_blocks (f ∷ fs))
@@ -61,15 +62,11 @@ select_descend s o bound place places (a_select n v f parts p is) d = d
 group_descend : (s : State) (o : Opener) (bound place : ℕ) (places : List ℕ) → IsGroup s o → Descends bound places
     → Descends bound (cond (holds_statements o) (place ∷ places) places)
 group_descend s o bound place places (a_group group_form.Choose parts p) d = d
-group_descend s o bound place places (a_group group_form.Wrap parts p) d = d
-group_descend s o bound place places (a_group group_form.Guard parts p) d = d
+group_descend s o bound place places _ d = d
 
 pub moves_descend : (s : State) {t : State} → Moves s t → BlocksDescend s → BlocksDescend t
-moves_descend s (declares f parts p h full) d = d
 moves_descend s (begins_fiber parts p h full) d = new_descend s.blocks (frame opener.Text (length s.blocks) outermost) (s.top ∷ s.outer) refl d
 moves_descend s (begins_main h) d = new_descend s.blocks (frame opener.Main (length s.blocks) outermost) (s.top ∷ s.outer) refl d
-moves_descend s (states x p h full breaks) d = d
-moves_descend s (adds_leaf f parts p h few) d = d
 moves_descend s (opens o p h full deep) d = new_descend s.blocks (frame o (length s.blocks) (inside s.top.level o)) (s.top ∷ s.outer) refl d
 moves_descend s (opens_select o p h full deep) d = select_descend s o (length s.blocks) 0 (open_blocks (s.top ∷ s.outer)) p d
 moves_descend s (opens_group o p h deep) d = group_descend s o (length s.blocks) (length s.events) (open_blocks (s.top ∷ s.outer)) p d
@@ -79,6 +76,7 @@ moves_descend s (ends_text f behind e h ends) d = behind_descend s.top.what behi
 moves_descend s (ends_block f fs x e h becomes) d = rw length-set (end_descend s f fs e d)
 moves_descend s (ends_select f fs number value e h is) d = end_descend s f fs e d
 moves_descend s (ends_group f fs x e h groups) d = end_descend s f fs e d
+moves_descend s _ d = d
 
 -- the places of open blocks descend
 pub blocks_descend : {s : State} {lines : List (List (List ℕ))} → Path s lines → BlocksDescend s

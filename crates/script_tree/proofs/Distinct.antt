@@ -19,7 +19,7 @@ use Rattle.script_tree.specs.Reading.{State}
 use Rattle.script_tree.specs.Words.{class}
 use Rattle.script_tree.specs.WellFormed.{AreDistinct}
 use Rattle.script_tree.proofs.Lasting.{all_push}
-use Rattle.script_tree.proofs.Moves.{Moves, declares, begins_fiber, begins_main, states, adds_leaf, opens, opens_select, opens_group, begins_else, begins_catch, ends_text, ends_block, ends_select, ends_group}
+use Rattle.script_tree.proofs.Moves.{Moves, declares, begins_fiber}
 
 -- ---- new names
 
@@ -30,13 +30,7 @@ new_free None word q e = (refl, cc)
 named_free : (names : List Named) (word : List ℕ) (c : Class) (q : Part) → class_read names a_new_name word c ≡ Ok q → thing_of names (name_in q) ≡ None
 named_free names word class_is.Name q e =
     let f = new_free (thing_of names word) word q e in subst (λ p. thing_of names (name_in p) ≡ None) f.1 f.0
-named_free names word (class_is.Number n) q e = cc
-named_free names word class_is.LargeNumber q e = cc
-named_free names word (class_is.Register n) q e = cc
-named_free names word class_is.LargeRegister q e = cc
-named_free names word (class_is.Promise n) q e = cc
-named_free names word class_is.LargePromise q e = cc
-named_free names word class_is.Other q e = cc
+named_free names word _ q e = cc
 
 first_free : (names : List Named) (x : Result Part Cause) (rest : Result (List Part) Cause) (parts : List Part)
     → ((q : Part) → x ≡ Ok q → thing_of names (name_in q) ≡ None) → then_read x rest ≡ Ok parts → thing_of names (name_in (part_at parts 0)) ≡ None
@@ -54,14 +48,9 @@ read_free names ss (w ∷ ws) parts e =
 -- a name that a declaration makes known was not taken
 declared_free : (names : List Named) (f : DeclForm) (words : List (List ℕ)) (parts : List Part) → words_read names (decl_form_shapes f) words ≡ Ok parts
     → thing_of names (name_in (part_at parts 0)) ≡ None
-declared_free names decl_form.Trigger words parts e = read_free names [] words parts e
-declared_free names decl_form.Comp words parts e = read_free names [] words parts e
-declared_free names decl_form.Mutex words parts e = read_free names [] words parts e
-declared_free names decl_form.Cond words parts e = read_free names [] words parts e
 declared_free names decl_form.Sem words parts e = read_free names (a_number ∷ []) words parts e
 declared_free names decl_form.Latch words parts e = read_free names (a_number ∷ []) words parts e
-declared_free names decl_form.Ivar words parts e = read_free names [] words parts e
-declared_free names decl_form.Stream words parts e = read_free names [] words parts e
+declared_free names _ words parts e = read_free names [] words parts e
 
 -- ---- distinct names
 
@@ -101,15 +90,4 @@ name_pushed names n d free =
 pub moves_distinct : (s : State) {t : State} → Moves s t → AreDistinct (bytes_of s.names) → AreDistinct (bytes_of t.names)
 moves_distinct s (declares f parts p h full) d = name_pushed s.names _ d (declared_free s.names f p.words parts p.read)
 moves_distinct s (begins_fiber parts p h full) d = name_pushed s.names _ d (read_free s.names [] p.words parts p.read)
-moves_distinct s (begins_main h) d = d
-moves_distinct s (states x p h full breaks) d = d
-moves_distinct s (adds_leaf f parts p h few) d = d
-moves_distinct s (opens o p h full deep) d = d
-moves_distinct s (opens_select o p h full deep) d = d
-moves_distinct s (opens_group o p h deep) d = d
-moves_distinct s (begins_else a q b is) d = d
-moves_distinct s (begins_catch parts p is) d = d
-moves_distinct s (ends_text f behind e h ends) d = d
-moves_distinct s (ends_block f fs x e h becomes) d = d
-moves_distinct s (ends_select f fs number value e h is) d = d
-moves_distinct s (ends_group f fs x e h groups) d = d
+moves_distinct s _ d = d

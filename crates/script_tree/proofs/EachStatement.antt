@@ -19,7 +19,7 @@ use Rattle.script_tree.specs.Parts.{Part}
 use Rattle.script_tree.specs.Reading.{State, Frame, is_group, holds_events}
 use Rattle.script_tree.specs.Tree.{Tree}
 use Rattle.script_tree.proofs.Lasting.{all_push}
-use Rattle.script_tree.proofs.Moves.{Moves, declares, begins_fiber, begins_main, states, adds_leaf, opens, opens_select, opens_group, begins_else, begins_catch, ends_text, ends_block, ends_select, ends_group, IsStated, basic, on_comps, on_objects, on_fibers, Becomes, a_then, an_else, a_loop, a_handler, a_forbid, a_permit, an_under, a_link, a_protect, a_bundle, a_flock}
+use Rattle.script_tree.proofs.Moves.{Moves, declares, states, adds_leaf, opens_select, opens_group, begins_else, begins_catch, ends_text, ends_block, ends_select, ends_group, IsStated, basic, on_comps, on_objects, on_fibers, Becomes, a_then}
 use Rattle.script_tree.proofs.Selecting.{LeavesCounted, CountsIn, LeavesIn}
 
 -- it holds of all statements so far
@@ -51,12 +51,9 @@ module _ (P : Stmt → Type 0) (s : State) (h : Each P s) where
 
   pub moves_each : {t : State} → Moves s t → OfNew P s → Each P t
   moves_each (declares f parts p holds full) n = record { blocks = h.blocks; frames = h.frames }
-  moves_each (begins_fiber parts p holds full) n = record { blocks = with_empty s.blocks h.blocks; frames = (tt, h.frames) }
-  moves_each (begins_main holds) n = record { blocks = with_empty s.blocks h.blocks; frames = (tt, h.frames) }
   moves_each (states x p holds full breaks) n =
       record { blocks = h.blocks; frames = (all_push P s.top.stmts x h.frames.0 (n.stated x p), h.frames.1) }
   moves_each (adds_leaf f parts p holds few) n = record { blocks = h.blocks; frames = h.frames }
-  moves_each (opens o p holds full deep) n = record { blocks = with_empty s.blocks h.blocks; frames = (tt, h.frames) }
   moves_each (opens_select o p holds full deep) n = record { blocks = h.blocks; frames = (tt, h.frames) }
   moves_each (opens_group o p holds deep) n = record { blocks = h.blocks; frames = (tt, h.frames) }
   moves_each (begins_else a q b is) n =
@@ -70,6 +67,7 @@ module _ (P : Stmt → Type 0) (s : State) (h : Each P s) where
       let a = around f fs e in
       record { blocks = h.blocks; frames = (all_push P f.stmts (stmt.Select number value s.top.events) a.0 (n.select number value is), a.1) }
   moves_each (ends_group f fs x e holds groups) n = record { blocks = h.blocks; frames = around f fs e }
+  moves_each _ n = record { blocks = with_empty s.blocks h.blocks; frames = (tt, h.frames) }
 
 -- ---- the limit of selects
 
@@ -97,16 +95,7 @@ stated_keeps s tree x (on_fibers f parts p) = fiber_keeps tree f parts
 
 becomes_keeps : (tree : Tree) (place : ℕ) (o : Opener) (x : Stmt) → Becomes place o x → SelectKeepsLimit tree x
 becomes_keeps tree place o x a_then = tt
-becomes_keeps tree place o x an_else = tt
-becomes_keeps tree place o x a_loop = tt
-becomes_keeps tree place o x a_handler = tt
-becomes_keeps tree place o x a_forbid = tt
-becomes_keeps tree place o x a_permit = tt
-becomes_keeps tree place o x an_under = tt
-becomes_keeps tree place o x a_link = tt
-becomes_keeps tree place o x a_protect = tt
-becomes_keeps tree place o x a_bundle = tt
-becomes_keeps tree place o x a_flock = tt
+becomes_keeps tree place o x _ = tt
 
 select_keeps : (s : State) (tree : Tree) (number value : ℕ) → LeavesCounted s tree → s.top.what ≡ opener.Select number value → HaveFewLeaves tree s.top.events
 select_keeps s tree number value c is = record {

@@ -16,7 +16,7 @@ use Rattle.script_tree.specs.Spelling.{line_text}
 use Rattle.script_tree.specs.Tree.{Tree}
 use Rattle.script_tree.proofs.Allowed.{May, role_events, role_then, role_try, nothing_ends}
 use Rattle.script_tree.proofs.Closings.{two_parts, block_closes, fiber_closes, main_closes, select_closes, group_closes, part_goes}
-use Rattle.script_tree.proofs.OpenGroups.{GroupsDescend}
+use Rattle.script_tree.proofs.Groups.{GroupsDescend}
 use Rattle.script_tree.proofs.Paths.{is_bare_else, BlocksDescend}
 use Rattle.script_tree.proofs.Settled.{Settles}
 use Rattle.script_tree.proofs.Standing.{Around, Stands, in_file, behind, in_block, in_events, Goes, stmts_shown, events_shown}
@@ -36,10 +36,6 @@ block_ends : (tree : Tree) (s : State) (o : Opener) (depth levels : ℕ) (front 
     → is_bare_else o s.top.stmts ≡ false → BlocksDescend s → Settles (closed s o) tree → depth ≤ 33
     → Around tree s.decls s.texts o s.top.place s.outer depth levels front → text ≡ front ++ stmts_shown tree depth levels s.top.stmts
     → Goes tree (closed s o) text (Some form.End) []
-block_ends tree s opener.Head depth levels front text e h may some descend settle deep a i = cc
-block_ends tree s opener.Between depth levels front text e h may some descend settle deep a i = cc
-block_ends tree s opener.Over depth levels front text e h may some descend settle deep a i = cc
-block_ends tree s opener.Try depth levels front text e h may some descend settle deep a i = cc
 block_ends tree s (opener.Select n v) depth levels front text e h may some descend settle deep a i = cc (h, ap holds_statements e)
 block_ends tree s opener.Choose depth levels front text e h may some descend settle deep a i = cc (h, ap holds_statements e)
 block_ends tree s (opener.Wrap o) depth levels front text e h may some descend settle deep a i = cc (h, ap holds_statements e)
@@ -72,6 +68,7 @@ block_ends tree s opener.Bundle depth levels front text e h may some descend set
     block_closes tree s opener.Bundle (stmt.Bundle s.top.place) s.top.place s.outer depth levels front text refl h (λ d n. refl) descend settle deep a i
 block_ends tree s opener.Flock depth levels front text e h may some descend settle deep a i =
     block_closes tree s opener.Flock (stmt.Flock s.top.place) s.top.place s.outer depth levels front text refl h (λ d n. refl) descend settle deep a i
+block_ends tree s _ depth levels front text e h may some descend settle deep a i = cc
 
 events_end : (tree : Tree) (s : State) (o : Opener) (depth levels : ℕ) (front text : List ℕ) → s.top.what ≡ o → holds_events o ≡ true → GroupsDescend s
     → Settles (closed s o) tree → depth ≤ 33

@@ -1,5 +1,5 @@
 -- What is read where a shape is wanted fits the shape, in each tree in which the names stand for what they should.
-use Rattle.std.proofs.Common.{◌≡◌, ℕ, ◌^◌, ◌<◌, ◌∙◌, Bool, true, false, cond, ◌||◌, ◌==◌, IsTrue, Option, Some, None, Result, Ok, Err, List, [], ◌∷◌, drop, slice_get, nat_lt, if◌then◌else◌, refl, sym, ap, subst}
+use Rattle.std.proofs.Common.{◌≡◌, ℕ, ◌^◌, ◌<◌, Bool, true, false, cond, ◌||◌, ◌==◌, IsTrue, Option, Some, None, Result, Ok, Err, List, [], ◌∷◌, drop, slice_get, nat_lt, refl, subst}
 use Rattle.std.proofs.lemmas.Bool.{false≢true, ltb-true, eqb-true}
 use Rattle.std.specs.List.{AllByRecursion}
 use Rattle.std.specs.Str.{bytes_eq}
@@ -17,11 +17,11 @@ use Rattle.script_tree.specs.declared.thing.Sort.{Sort}
 use Rattle.script_tree.specs.declared.thing.Sort.TheVariants as sort
 use Rattle.script_tree.specs.declared.thing.Thing.{Thing}
 use Rattle.script_tree.specs.declared.thing.Thing.TheVariants as thing
-use Rattle.script_tree.specs.Lines.{number_in, operand_in, comp_in, test_in, name_in}
 use Rattle.script_tree.specs.Names.{Named, thing_of, sort_of, sort_number}
 use Rattle.script_tree.specs.Parts.{Part, number_part, operand_part, comp_part, test_part, name_part, Shape, a_register, a_value, a_number, a_key, a_promise, a_comp, a_test, a_new_name, a_fillable, a_place, comp_named, place_named, new_name, test_read, class_read, word_read}
 use Rattle.script_tree.specs.Tree.{Tree}
 use Rattle.script_tree.specs.WellFormed.{IsOfSort, IsFiberText, PartFits}
+use Rattle.script_tree.proofs.Spelled.{sorts_same}
 use Rattle.script_tree.specs.Words.{class, is_numeral, is_lettered, is_name, register_class, promise_class, lettered_class}
 
 -- ---- names
@@ -58,7 +58,6 @@ abbrev ClassFits : List ℕ → Class → Type 0
 ClassFits word (class_is.Number n) = n < 2 ^ 32
 ClassFits word (class_is.Register r) = r < 16
 ClassFits word (class_is.Promise p) = p < 8
-ClassFits word class_is.Name = is_name word ≡ true
 ClassFits word _ = Unit {0}
 
 number_fits : (word : List ℕ) (n : ℕ) (b : Bool) → nat_lt n (2 ^ 32) ≡ b → ClassFits word (cond b (class_is.Number n) class_is.LargeNumber)
@@ -77,10 +76,6 @@ either_fits : (word : List ℕ) (b : Bool) (c d : Class) → ClassFits word c �
 either_fits word true c d x y = x
 either_fits word false c d x y = y
 
-name_fits : (word : List ℕ) (b : Bool) → is_name word ≡ b → ClassFits word (cond b class_is.Name class_is.Other)
-name_fits word true e = e
-name_fits word false e = tt
-
 lettered_fits : (word : List ℕ) (of : ℕ → Class) (digits : List ℕ) → ClassFits word (of (digits_value 10 digits)) → ClassFits word (lettered_class of digits)
 lettered_fits word of digits h = either_fits word (is_numeral digits) (of (digits_value 10 digits)) class_is.Other h tt
 
@@ -89,74 +84,26 @@ class_fits word =
     either_fits word (is_numeral word) _ _ (number_fits word _ _ refl)
     (either_fits word (is_lettered 114 word) _ _ (lettered_fits word register_class (drop 1 word) (register_fits word (digits_value 10 (drop 1 word)) _ refl))
     (either_fits word (is_lettered 112 word) _ _ (lettered_fits word promise_class (drop 1 word) (promise_fits word (digits_value 10 (drop 1 word)) _ refl))
-    (name_fits word _ refl)))
+    (either_fits word (is_name word) class_is.Name class_is.Other tt tt)))
 
 -- ---- parts
-
--- a part as the lines that are made of it have it
-abbrev pub again : Shape → Part → Part
-again a_value p = operand_part (operand_in p)
-again a_comp p = comp_part (comp_in p)
-again a_test p = test_part (test_in p)
-again a_new_name p = name_part (name_in p)
-again _ p = number_part (number_in p)
-
--- the part is what its shape wants, and of its kind
-pub record PartIs (tree : Tree) (shape : Shape) (part : Part) : Type 0 where
-  pub fits : PartFits tree shape part
-  pub same : again shape part ≡ part
 
 abbrev read_part : Part → Result Part Cause
 read_part p = Ok p
 
-part_is : (tree : Tree) (shape : Shape) (p q : Part) → PartIs tree shape p → read_part p ≡ Ok q → PartIs tree shape q
-part_is tree shape p q x e = let h : p ≡ q = cc in subst (λ r. PartIs tree shape r) h x
+part_is : (tree : Tree) (shape : Shape) (p q : Part) → PartFits tree shape p → read_part p ≡ Ok q → PartFits tree shape q
+part_is tree shape p q x e = let h : p ≡ q = cc in subst (λ r. PartFits tree shape r) h x
 
 -- ---- what a name stands for
 
-sort_from : ℕ → Sort
-sort_from n =
-    if n == 0 then sort.Trigger
-    else (if n == 1 then sort.Comp
-    else (if n == 2 then sort.Mutex
-    else (if n == 3 then sort.Cond
-    else (if n == 4 then sort.Sem
-    else (if n == 5 then sort.Latch
-    else (if n == 6 then sort.Ivar
-    else (if n == 7 then sort.Stream
-    else sort.Text)))))))
-
-sort_back : (s : Sort) → sort_from (sort_number s) ≡ s
-unfolding sort_from
-sort_back sort.Trigger = refl
-sort_back sort.Comp = refl
-sort_back sort.Mutex = refl
-sort_back sort.Cond = refl
-sort_back sort.Sem = refl
-sort_back sort.Latch = refl
-sort_back sort.Ivar = refl
-sort_back sort.Stream = refl
-sort_back sort.Text = refl
-
--- sorts are told apart by their numbers
-same_sort : (s t : Sort) → sort_number s ≡ sort_number t → s ≡ t
-same_sort s t e = sym (sort_back s) ∙ ap sort_from e ∙ sort_back t
-
-place_fits : (tree : Tree) (s : Sort) (place : ℕ) → PlaceFits tree s place → PartIs tree (a_place s) (number_part place)
-place_fits tree sort.Trigger place h = record { fits = h; same = refl }
-place_fits tree sort.Comp place h = record { fits = h; same = refl }
-place_fits tree sort.Mutex place h = record { fits = h; same = refl }
-place_fits tree sort.Cond place h = record { fits = h; same = refl }
-place_fits tree sort.Sem place h = record { fits = h; same = refl }
-place_fits tree sort.Latch place h = record { fits = h; same = refl }
-place_fits tree sort.Ivar place h = record { fits = h; same = refl }
-place_fits tree sort.Stream place h = record { fits = h; same = refl }
-place_fits tree sort.Text place h = record { fits = h; same = refl }
+place_fits : (tree : Tree) (s : Sort) (place : ℕ) → PlaceFits tree s place → PartFits tree (a_place s) (number_part place)
+place_fits tree sort.Text place h = h
+place_fits tree _ place h = h
 
 of_this_sort : (tree : Tree) (s t : Sort) (place : ℕ) → (sort_number t == sort_number s) ≡ true → PlaceFits tree t place
-    → PartIs tree (a_place s) (number_part place)
+    → PartFits tree (a_place s) (number_part place)
 of_this_sort tree s t place e h =
-    place_fits tree s place (subst (λ r. PlaceFits tree r place) (same_sort t s (eqb-true (sort_number t) (sort_number s) e)) h)
+    place_fits tree s place (subst (λ r. PlaceFits tree r place) (sorts_same t s (eqb-true (sort_number t) (sort_number s) e)) h)
 
 true_left : (a b : Bool) → IsTrue a → IsTrue (a || b)
 true_left true b h = refl
@@ -175,96 +122,77 @@ stream_fills None h = h
 stream_fills (Some d) h = true_right (sort_number (sort_of d.kind) == 6) _ h
 
 fillable : (tree : Tree) (t : Sort) (place : ℕ) → ((sort_number t == 6) || (sort_number t == 7)) ≡ true → PlaceFits tree t place
-    → PartIs tree a_fillable (number_part place)
-fillable tree sort.Ivar place e h = record { fits = ivar_fills (slice_get tree.decls place) h; same = refl }
-fillable tree sort.Stream place e h = record { fits = stream_fills (slice_get tree.decls place) h; same = refl }
+    → PartFits tree a_fillable (number_part place)
+fillable tree sort.Ivar place e h = ivar_fills (slice_get tree.decls place) h
+fillable tree sort.Stream place e h = stream_fills (slice_get tree.decls place) h
 fillable tree _ place e h = absurd (false≢true e)
 
 -- a name of one of the sorts that are wanted
-sort_named : (tree : Tree) (shape : Shape) (b : Bool) (place : ℕ) (q : Part) → (b ≡ true → PartIs tree shape (number_part place))
-    → cond b (read_part (number_part place)) (Err cause.OtherKind) ≡ Ok q → PartIs tree shape q
+sort_named : (tree : Tree) (shape : Shape) (b : Bool) (place : ℕ) (q : Part) → (b ≡ true → PartFits tree shape (number_part place))
+    → cond b (read_part (number_part place)) (Err cause.OtherKind) ≡ Ok q → PartFits tree shape q
 sort_named tree shape false place q h e = cc
 sort_named tree shape true place q h e = part_is tree shape (number_part place) q (h refl) e
 
 place_is : (tree : Tree) (wanted : ℕ → Bool) (shape : Shape) (o : Option Thing) (q : Part)
-    → ((t : Sort) (place : ℕ) → wanted (sort_number t) ≡ true → PlaceFits tree t place → PartIs tree shape (number_part place))
-    → FoundFits tree o → place_named wanted o ≡ Ok q → PartIs tree shape q
-place_is tree wanted shape None q h f e = cc
-place_is tree wanted shape (Some thing.Root) q h f e = cc
-place_is tree wanted shape (Some thing.Main) q h f e = cc
+    → ((t : Sort) (place : ℕ) → wanted (sort_number t) ≡ true → PlaceFits tree t place → PartFits tree shape (number_part place))
+    → FoundFits tree o → place_named wanted o ≡ Ok q → PartFits tree shape q
 place_is tree wanted shape (Some (thing.Named t place)) q h f e =
     sort_named tree shape (wanted (sort_number t)) place q (λ w. h t place w f) e
+place_is tree wanted shape _ q h f e = cc
 
-comp_is : (tree : Tree) (o : Option Thing) (q : Part) → FoundFits tree o → comp_named o ≡ Ok q → PartIs tree a_comp q
-comp_is tree None q f e = cc
-comp_is tree (Some thing.Root) q f e = part_is tree a_comp (comp_part comp.Root) q (record { fits = tt; same = refl }) e
-comp_is tree (Some thing.Main) q f e = cc
+comp_is : (tree : Tree) (o : Option Thing) (q : Part) → FoundFits tree o → comp_named o ≡ Ok q → PartFits tree a_comp q
+comp_is tree (Some thing.Root) q f e = part_is tree a_comp (comp_part comp.Root) q tt e
 comp_is tree (Some (thing.Named sort.Comp place)) q f e =
-    part_is tree a_comp (comp_part (comp.Named place)) q (record { fits = f; same = refl }) e
-comp_is tree (Some (thing.Named _ place)) q f e = cc
+    part_is tree a_comp (comp_part (comp.Named place)) q f e
+comp_is tree _ q f e = cc
 
-name_is : (tree : Tree) (word : List ℕ) (o : Option Thing) (q : Part) → is_name word ≡ true → new_name word o ≡ Ok q → PartIs tree a_new_name q
+name_is : (tree : Tree) (word : List ℕ) (o : Option Thing) (q : Part) → class word ≡ class_is.Name → new_name word o ≡ Ok q → PartFits tree a_new_name q
 name_is tree word (Some t) q n e = cc
 name_is tree word None q n e =
-    part_is tree a_new_name (name_part word) q (record { fits = n; same = refl }) e
+    part_is tree a_new_name (name_part word) q n e
 
 key_is : (tree : Tree) (n : ℕ) (q : Part) (b : Bool) → nat_lt n 16 ≡ b → cond b (Ok (number_part n)) (Err cause.LargeRegister) ≡ Ok q
-    → PartIs tree a_key q
+    → PartFits tree a_key q
 key_is tree n q false l e = cc
-key_is tree n q true l e = part_is tree a_key (number_part n) q (record { fits = ltb-true n 16 l; same = refl }) e
+key_is tree n q true l e = part_is tree a_key (number_part n) q (ltb-true n 16 l) e
 
-test_is : (tree : Tree) (t : Test) (b : Bool) (other : Result Part Cause) (q : Part) → (other ≡ Ok q → PartIs tree a_test q)
-    → cond b (Ok (test_part t)) other ≡ Ok q → PartIs tree a_test q
-test_is tree t true other q h e = part_is tree a_test (test_part t) q (record { fits = tt; same = refl }) e
+test_is : (tree : Tree) (t : Test) (b : Bool) (other : Result Part Cause) (q : Part) → (other ≡ Ok q → PartFits tree a_test q)
+    → cond b (Ok (test_part t)) other ≡ Ok q → PartFits tree a_test q
+test_is tree t true other q h e = part_is tree a_test (test_part t) q tt e
 test_is tree t false other q h e = h e
 
 abbrev refused_part : Cause → Result Part Cause
 refused_part c = Err c
 
-no_part : (tree : Tree) (shape : Shape) (q : Part) (c : Cause) → refused_part c ≡ Ok q → PartIs tree shape q
+no_part : (tree : Tree) (shape : Shape) (q : Part) (c : Cause) → refused_part c ≡ Ok q → PartFits tree shape q
 no_part tree shape q c e = cc
 
-tests_are : (tree : Tree) (word : List ℕ) (q : Part) → test_read word ≡ Ok q → PartIs tree a_test q
+tests_are : (tree : Tree) (word : List ℕ) (q : Part) → test_read word ≡ Ok q → PartFits tree a_test q
 tests_are tree word q =
     test_is tree test.Eq _ _ q (test_is tree test.Ne _ _ q (test_is tree test.Lt _ _ q (test_is tree test.Le _ _ q
     (test_is tree test.Gt _ _ q (test_is tree test.Ge _ _ q (no_part tree a_test q cause.Word))))))
 
 -- ---- words
 
-read_is : (tree : Tree) (names : List Named) (shape : Shape) (word : List ℕ) (c : Class) (q : Part) → ClassFits word c → NamesFit tree names
-    → class_read names shape word c ≡ Ok q → PartIs tree shape q
-read_is tree names a_register word (class_is.Register r) q f n e = part_is tree a_register (number_part r) q (record { fits = f; same = refl }) e
-read_is tree names a_register word class_is.LargeRegister q f n e = no_part tree a_register q cause.LargeRegister e
-read_is tree names a_register word _ q f n e = no_part tree a_register q cause.Word e
-read_is tree names a_value word (class_is.Register r) q f n e = part_is tree a_value (operand_part (operand.Reg r)) q (record { fits = f; same = refl }) e
-read_is tree names a_value word class_is.LargeRegister q f n e = no_part tree a_value q cause.LargeRegister e
-read_is tree names a_value word (class_is.Number k) q f n e = part_is tree a_value (operand_part (operand.Num k)) q (record { fits = f; same = refl }) e
-read_is tree names a_value word class_is.LargeNumber q f n e = no_part tree a_value q cause.LargeNumber e
-read_is tree names a_value word _ q f n e = no_part tree a_value q cause.Word e
-read_is tree names a_number word (class_is.Number k) q f n e = part_is tree a_number (number_part k) q (record { fits = f; same = refl }) e
-read_is tree names a_number word class_is.LargeNumber q f n e = no_part tree a_number q cause.LargeNumber e
-read_is tree names a_number word _ q f n e = no_part tree a_number q cause.Word e
-read_is tree names a_key word (class_is.Number k) q f n e = key_is tree k q (nat_lt k 16) refl e
-read_is tree names a_key word class_is.LargeNumber q f n e = no_part tree a_key q cause.LargeNumber e
-read_is tree names a_key word _ q f n e = no_part tree a_key q cause.Word e
-read_is tree names a_promise word (class_is.Promise p) q f n e = part_is tree a_promise (number_part p) q (record { fits = f; same = refl }) e
-read_is tree names a_promise word class_is.LargePromise q f n e = no_part tree a_promise q cause.LargeRegister e
-read_is tree names a_promise word _ q f n e = no_part tree a_promise q cause.Word e
-read_is tree names a_comp word (class_is.Promise p) q f n e = part_is tree a_comp (comp_part (comp.Promise p)) q (record { fits = f; same = refl }) e
-read_is tree names a_comp word class_is.LargePromise q f n e = no_part tree a_comp q cause.LargeRegister e
-read_is tree names a_comp word class_is.Name q f n e = comp_is tree (thing_of names word) q (found_fits tree names word n) e
-read_is tree names a_comp word _ q f n e = no_part tree a_comp q cause.Word e
-read_is tree names a_test word c q f n e = tests_are tree word q e
-read_is tree names a_new_name word class_is.Name q f n e = name_is tree word (thing_of names word) q f e
-read_is tree names a_new_name word _ q f n e = no_part tree a_new_name q cause.Word e
-read_is tree names a_fillable word class_is.Name q f n e =
+read_is : (tree : Tree) (names : List Named) (shape : Shape) (word : List ℕ) (c : Class) (q : Part) → class word ≡ c → ClassFits word c → NamesFit tree names
+    → class_read names shape word c ≡ Ok q → PartFits tree shape q
+read_is tree names a_register word (class_is.Register r) q k f n e = part_is tree a_register (number_part r) q f e
+read_is tree names a_value word (class_is.Register r) q k f n e = part_is tree a_value (operand_part (operand.Reg r)) q f e
+read_is tree names a_value word (class_is.Number m) q k f n e = part_is tree a_value (operand_part (operand.Num m)) q f e
+read_is tree names a_number word (class_is.Number m) q k f n e = part_is tree a_number (number_part m) q f e
+read_is tree names a_key word (class_is.Number m) q k f n e = key_is tree m q (nat_lt m 16) refl e
+read_is tree names a_promise word (class_is.Promise p) q k f n e = part_is tree a_promise (number_part p) q f e
+read_is tree names a_comp word (class_is.Promise p) q k f n e = part_is tree a_comp (comp_part (comp.Promise p)) q f e
+read_is tree names a_comp word class_is.Name q k f n e = comp_is tree (thing_of names word) q (found_fits tree names word n) e
+read_is tree names a_test word c q k f n e = tests_are tree word q e
+read_is tree names a_new_name word class_is.Name q k f n e = name_is tree word (thing_of names word) q k e
+read_is tree names a_fillable word class_is.Name q k f n e =
     place_is tree (λ s. (s == 6) || (s == 7)) a_fillable (thing_of names word) q (fillable tree) (found_fits tree names word n) e
-read_is tree names a_fillable word _ q f n e = no_part tree a_fillable q cause.Word e
-read_is tree names (a_place s) word class_is.Name q f n e =
+read_is tree names (a_place s) word class_is.Name q k f n e =
     place_is tree (λ t. t == sort_number s) (a_place s) (thing_of names word) q (of_this_sort tree s) (found_fits tree names word n) e
-read_is tree names (a_place s) word _ q f n e = no_part tree (a_place s) q cause.Word e
+read_is tree names _ word _ q k f n e = cc
 
 -- the part that a word is read as
 pub word_is : (tree : Tree) (names : List Named) (shape : Shape) (word : List ℕ) (q : Part) → NamesFit tree names
-    → word_read names shape word ≡ Ok q → PartIs tree shape q
-word_is tree names shape word q n e = read_is tree names shape word (class word) q (class_fits word) n e
+    → word_read names shape word ≡ Ok q → PartFits tree shape q
+word_is tree names shape word q n e = read_is tree names shape word (class word) q refl (class_fits word) n e

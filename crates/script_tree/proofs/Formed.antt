@@ -10,7 +10,6 @@ use Rattle.script_tree.specs.Reading.{State, Frame, start, is_over}
 use Rattle.script_tree.specs.Leaves.{SelectKeepsLimit}
 use Rattle.script_tree.specs.Tree.{Tree}
 use Rattle.script_tree.specs.WellFormed.{IsWellFormed, IsProgram, KeepsLimits, AreDistinct}
-use Rattle.script_tree.proofs.Ends.{HasClosed, closed_itself, closed_back}
 use Rattle.script_tree.proofs.Counting.{FewDecls, FewTexts, moves_decls, moves_texts}
 use Rattle.script_tree.proofs.Deep.{LevelsMade, levels_first, levels_next, has_levels}
 use Rattle.script_tree.proofs.Declaring.{Declares, moves_declare, MainIsLast, main_last}
@@ -29,6 +28,7 @@ use Rattle.script_tree.proofs.Nesting.{IsNested, Nested}
 use Rattle.script_tree.proofs.Paths.{Path, begin, more, BlocksDescend}
 use Rattle.script_tree.proofs.Pathways.{path_of}
 use Rattle.script_tree.proofs.Selecting.{LeavesCounted, moves_leaves}
+use Rattle.script_tree.proofs.Settled.{Settles, moves_keep, settled_at_end, settled_before}
 use Rattle.script_tree.proofs.EachStatement.{Each, moves_each, new_keeps}
 use Rattle.script_tree.proofs.Stating.{FewStatements, moves_state}
 
@@ -116,7 +116,7 @@ fits_first tree = record {
   selects = record { blocks = tt; frames = (tt, tt) };
 }
 
-fits_next : (s t : State) (tree : Tree) → Moves s t → Stands s → LastsIn t tree → HasClosed t tree → FitsIn s tree → FitsIn t tree
+fits_next : (s t : State) (tree : Tree) → Moves s t → Stands s → LastsIn t tree → Settles t tree → FitsIn s tree → FitsIn t tree
 fits_next s t tree m h l closed f =
     record {
       names = moves_names s tree m h.nested l f.names;
@@ -126,12 +126,12 @@ fits_next s t tree m h l closed f =
       selects = moves_each (SelectKeepsLimit tree) s f.selects m (new_keeps s tree f.leaves);
     }
 
-fits : {s : State} {lines : List (List (List ℕ))} (tree : Tree) → Path s lines → LastsIn s tree → HasClosed s tree → FitsIn s tree
+fits : {s : State} {lines : List (List (List ℕ))} (tree : Tree) → Path s lines → LastsIn s tree → Settles s tree → FitsIn s tree
 fits tree begin l closed = fits_first tree
 fits tree (more {s = before} {words = words} line path taken bare) l closed =
     let h = stands path in
     let m = moves before _ words line taken bare h.nested in
-    fits_next before _ tree m h l closed (fits tree path (lasts_in before tree m h.nested l) (closed_back before tree m closed))
+    fits_next before _ tree m h l closed (fits tree path (lasts_in before tree m h.nested l) (settled_before before _ tree (moves_keep before m) closed))
 
 -- ---- at the end
 
@@ -161,7 +161,7 @@ formed : (s : State) (lines : List (List (List ℕ))) → Path s lines → is_ov
 formed s lines path over =
     let h = stands path in
     let one = over_alone s.top.what s.outer over h.nested in
-    let f = fits (tree_of s) path (lasts_itself s h.nested one) (closed_itself s) in
+    let f = fits (tree_of s) path (lasts_itself s h.nested one) (settled_at_end s) in
     record {
       decls = f.declares.decls;
       texts = f.declares.texts;

@@ -1,16 +1,19 @@
 -- What is open holds what fits, and becomes a statement or an event that fits.
 use Rattle.std.proofs.Common.{◌≡◌, ℕ, ◌<◌, true, List, [], ◌∷◌, refl, sym, subst}
 use Rattle.std.specs.List.{AllByRecursion}
-use Rattle.std.proofs.lemmas.Bool.{false≢true}
+use Rattle.script_tree.specs.declared.form.BlockForm.{BlockForm}
+use Rattle.script_tree.specs.declared.form.BlockForm.TheVariants as block_form
 use Rattle.script_tree.specs.declared.form.GroupForm.TheVariants as group_form
 use Rattle.script_tree.specs.declared.opener.Opener.{Opener}
 use Rattle.script_tree.specs.declared.opener.Opener.TheVariants as opener
 use Rattle.script_tree.specs.declared.program.EventTree.{EventTree}
 use Rattle.script_tree.specs.declared.program.Stmt.{Stmt}
+use Rattle.script_tree.specs.Lines.{block_form_made}
+use Rattle.script_tree.specs.Parts.{Part}
 use Rattle.script_tree.specs.Reading.{State, Frame, is_group}
 use Rattle.script_tree.specs.Tree.{Tree}
 use Rattle.script_tree.specs.WellFormed.{IsInner, IsEvent, StmtFits, EventFits, OpenerFits, MembersFit}
-use Rattle.script_tree.proofs.Moves.{opens_block, IsBlock, a_block, IsSelect, a_select, IsGroup, a_group, Becomes, a_then, an_else, a_loop, a_handler, a_forbid, a_permit, an_under, a_link, a_protect, a_bundle, a_flock, Groups, a_choose, a_wrap, a_guard, Ends, a_text, the_main}
+use Rattle.script_tree.proofs.Moves.{IsBlock, a_block, IsSelect, a_select, IsGroup, a_group, Becomes, a_then, an_else, a_handler, an_under, a_link, a_protect, Groups, a_choose, a_wrap, a_guard, Ends, a_text, the_main}
 
 -- what is open inside the block at the place `holder` has parts that fit, and first parts that stand behind that block
 abbrev pub OpenFits : Tree → ℕ → Opener → Type 0
@@ -41,29 +44,20 @@ FramesFit tree (f ∷ fs) = FrameFits tree (place_around fs) f × FramesFit tree
 
 -- ---- openings
 
-opens_fit : (tree : Tree) (holder : ℕ) (o : Opener) → opens_block o ≡ true → OpenerFits tree o → OpenFits tree holder o
-opens_fit tree holder (opener.Then l t r) h f = f
-opens_fit tree holder opener.Loop h f = f
-opens_fit tree holder opener.Try h f = f
-opens_fit tree holder opener.Forbid h f = f
-opens_fit tree holder opener.Permit h f = f
-opens_fit tree holder (opener.Under c) h f = f
-opens_fit tree holder (opener.Link a b) h f = f
-opens_fit tree holder (opener.Protect m) h f = f
-opens_fit tree holder opener.Bundle h f = f
-opens_fit tree holder opener.Flock h f = f
-opens_fit tree holder _ h f = absurd (false≢true h)
+block_form_fits : (tree : Tree) (holder : ℕ) (f : BlockForm) (parts : List Part) → OpenerFits tree (block_form_made f parts)
+    → OpenFits tree holder (block_form_made f parts)
+block_form_fits tree holder block_form.If parts h = h
+block_form_fits tree holder _ parts h = h
 
 pub block_opens_fit : (s : State) (tree : Tree) (holder : ℕ) (o : Opener) → IsBlock s o → OpenerFits tree o → OpenFits tree holder o
-block_opens_fit s tree holder o (a_block form parts p is) f = opens_fit tree holder o is f
+block_opens_fit s tree holder o (a_block form parts p is) f = block_form_fits tree holder form parts f
 
 pub select_opens_fit : (s : State) (tree : Tree) (holder : ℕ) (o : Opener) → IsSelect s o → OpenerFits tree o → OpenFits tree holder o
 select_opens_fit s tree holder o (a_select n v form parts p is) f = f
 
 pub group_opens_fit : (s : State) (tree : Tree) (holder : ℕ) (o : Opener) → IsGroup s o → OpenerFits tree o → OpenFits tree holder o
 group_opens_fit s tree holder o (a_group group_form.Choose parts p) f = f
-group_opens_fit s tree holder o (a_group group_form.Wrap parts p) f = f
-group_opens_fit s tree holder o (a_group group_form.Guard parts p) f = f
+group_opens_fit s tree holder o _ f = f
 
 -- something open that holds nothing yet
 pub empty_fits : (tree : Tree) (holder : ℕ) (f : Frame) → OpenFits tree holder f.what → f.stmts ≡ [] → f.events ≡ [] → FrameFits tree holder f
@@ -81,15 +75,11 @@ pub becomes_fits : (tree : Tree) (holder place : ℕ) (o : Opener) (x : Stmt) �
     → StmtFits tree holder x
 becomes_fits tree holder place o x a_then f i = (f, i, tt)
 becomes_fits tree holder place o x an_else f i = (f.0, f.1, i)
-becomes_fits tree holder place o x a_loop f i = i
 becomes_fits tree holder place o x a_handler f i = (f.0, f.1, i)
-becomes_fits tree holder place o x a_forbid f i = i
-becomes_fits tree holder place o x a_permit f i = i
 becomes_fits tree holder place o x an_under f i = (f, i)
 becomes_fits tree holder place o x a_link f i = (f, i)
 becomes_fits tree holder place o x a_protect f i = (f, i)
-becomes_fits tree holder place o x a_bundle f i = i
-becomes_fits tree holder place o x a_flock f i = i
+becomes_fits tree holder place o x _ f i = i
 
 -- the event that a group becomes fits
 pub groups_fit : (tree : Tree) (holder place : ℕ) (members : List ℕ) (o : Opener) (e : EventTree) → Groups members o e → OpenFits tree holder o

@@ -6,9 +6,11 @@ use Rattle.script_tree.specs.declared.opener.Opener.TheVariants as opener
 use Rattle.script_tree.specs.declared.program.EventTree.{EventTree}
 use Rattle.script_tree.specs.declared.program.EventTree.TheVariants as event
 use Rattle.script_tree.specs.Reading.{State, Frame, is_group, frame, inside}
-use Rattle.script_tree.proofs.Descending.{descends_up}
-use Rattle.script_tree.proofs.Moves.{Moves, declares, begins_fiber, begins_main, states, adds_leaf, opens, opens_select, opens_group, begins_else, begins_catch, ends_text, ends_block, ends_select, ends_group, opens_block, IsBlock, a_block, IsSelect, a_select, Ends, a_text, the_main}
-use Rattle.script_tree.proofs.Paths.{Descends}
+use Rattle.script_tree.proofs.Descending.{descends_up, descends_less}
+use Rattle.script_tree.proofs.Moves.{Moves, adds_leaf, opens, opens_select, opens_group, begins_else, begins_catch, ends_text, ends_block, ends_select, ends_group, opens_block, IsBlock, a_block, IsSelect, a_select, Ends, a_text, the_main}
+use Rattle.script_tree.proofs.Moving.{moves}
+use Rattle.script_tree.proofs.Pathways.{path_nested}
+use Rattle.script_tree.proofs.Paths.{Path, begin, more, Descends}
 
 -- the places of the open groups, from the inside out
 abbrev pub open_groups : List Frame → List ℕ
@@ -18,12 +20,8 @@ open_groups (f ∷ fs) = cond (is_group f.what) (f.place ∷ open_groups fs) (op
 abbrev pub GroupsDescend : State → Type 0
 GroupsDescend s = Descends (length s.events) (open_groups (s.top ∷ s.outer))
 
-without_top : (bound place : ℕ) (places : List ℕ) (b : Bool) → Descends bound (cond b (place ∷ places) places) → Descends bound places
-without_top bound place places true d = let e : Descends bound (place ∷ places) = d in descends_up place bound places (omega (arith, e.0)) e.1
-without_top bound place places false d = d
-
 pub around_groups : (bound : ℕ) (f : Frame) (fs : List Frame) → Descends bound (open_groups (f ∷ fs)) → Descends bound (open_groups fs)
-around_groups bound f fs d = without_top bound f.place (open_groups fs) (is_group f.what) d
+around_groups bound f fs d = descends_less (is_group f.what) bound f.place (open_groups fs) d
 
 -- the innermost group and what is around it
 pub inner_group : (bound : ℕ) (f : Frame) (fs : List Frame) → is_group f.what ≡ true → Descends bound (open_groups (f ∷ fs))
@@ -66,10 +64,6 @@ end_groups : (s : State) (f : Frame) (fs : List Frame) → s.outer ≡ f ∷ fs 
 end_groups s f fs e d = subst (λ gs. Descends (length s.events) (open_groups gs)) e (around_groups (length s.events) s.top s.outer d)
 
 pub moves_groups : (s : State) {t : State} → Moves s t → GroupsDescend s → GroupsDescend t
-moves_groups s (declares f parts p h full) d = d
-moves_groups s (begins_fiber parts p h full) d = d
-moves_groups s (begins_main h) d = d
-moves_groups s (states x p h full breaks) d = d
 moves_groups s (adds_leaf f parts p h few) d = more_events s _ (open_groups (s.top ∷ s.outer)) d
 moves_groups s (opens o p h full deep) d = no_group (length s.events) (frame o (length s.blocks) (inside s.top.level o)) (s.top ∷ s.outer) (block_no_group s o p) d
 moves_groups s (opens_select o p h full deep) d = no_group (length s.events) (frame o 0 (inside s.top.level o)) (s.top ∷ s.outer) (select_no_group s o p) d
@@ -80,3 +74,9 @@ moves_groups s (ends_text f behind e h ends) d = no_group (length s.events) (rec
 moves_groups s (ends_block f fs x e h becomes) d = end_groups s f fs e d
 moves_groups s (ends_select f fs number value e h is) d = end_groups s f fs e d
 moves_groups s (ends_group f fs x e h groups) d = same_events s s.top.place x (open_groups (f ∷ fs)) (end_groups s f fs e d)
+moves_groups s _ d = d
+
+pub groups_descend : {s : State} {lines : List (List (List ℕ))} → Path s lines → GroupsDescend s
+groups_descend begin = tt
+groups_descend (more {s = before} {lines = lines} {words = words} l path taken bare) =
+    moves_groups before (moves before _ words l taken bare (path_nested before lines path)) (groups_descend path)

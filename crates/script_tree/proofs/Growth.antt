@@ -67,23 +67,12 @@ closed_grows s opener.Head = same s
 closed_grows s opener.Between = same s
 closed_grows s opener.Over = same s
 closed_grows s opener.Try = same s
-closed_grows s opener.Text = block_closed_grows s _
-closed_grows s opener.Main = block_closed_grows s _
-closed_grows s (opener.Then l t r) = block_closed_grows s _
 closed_grows s (opener.Otherwise l t r then_place) = else_closed_grows s l t r then_place s.top.stmts
-closed_grows s opener.Loop = block_closed_grows s _
-closed_grows s (opener.Catch body register) = block_closed_grows s _
-closed_grows s opener.Forbid = block_closed_grows s _
-closed_grows s opener.Permit = block_closed_grows s _
-closed_grows s (opener.Under c) = block_closed_grows s _
-closed_grows s (opener.Link a b) = block_closed_grows s _
-closed_grows s (opener.Protect m) = block_closed_grows s _
-closed_grows s opener.Bundle = block_closed_grows s _
-closed_grows s opener.Flock = block_closed_grows s _
 closed_grows s (opener.Select number value) = left_grows s s.blocks s.events _ s.outer (omega arith) (omega arith)
 closed_grows s opener.Choose = group_closed_grows s _ _
 closed_grows s (opener.Wrap o) = group_closed_grows s _ _
 closed_grows s (opener.Guard l t r) = group_closed_grows s _ _
+closed_grows s _ = block_closed_grows s _
 
 opened_grows : (s : State) (o : Opener) → Grows s (opened s o)
 opened_grows s (opener.Select n v) = record { decls = omega arith; texts = omega arith; blocks = omega arith; events = omega arith }

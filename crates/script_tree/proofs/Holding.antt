@@ -20,8 +20,8 @@ use Rattle.script_tree.proofs.Fitting.{NamesFit}
 use Rattle.script_tree.proofs.Frames.{OpenFits, FramesFit, place_around, block_opens_fit, select_opens_fit, group_opens_fit, empty_fits, becomes_fits, groups_fit, behind_text_fits}
 use Rattle.script_tree.proofs.Groups.{GroupsDescend, open_groups, inner_group, behind_no_group}
 use Rattle.script_tree.proofs.Lasting.{LastsIn, all_push}
-use Rattle.script_tree.proofs.Moves.{Moves, declares, begins_fiber, begins_main, states, adds_leaf, opens, opens_select, opens_group, begins_else, begins_catch, ends_text, ends_block, ends_select, ends_group, Becomes, Groups, a_choose, a_wrap, a_guard, Ends}
-use Rattle.script_tree.proofs.Moving.{becomes_in, becomes_no_file, becomes_holds}
+use Rattle.script_tree.proofs.Moves.{Moves, declares, begins_fiber, begins_main, states, adds_leaf, opens, opens_select, opens_group, begins_else, begins_catch, ends_text, ends_block, ends_select, ends_group, Becomes, Ends}
+use Rattle.script_tree.proofs.Moving.{groups_are, becomes_in, becomes_no_file, becomes_holds}
 use Rattle.script_tree.proofs.Nesting.{is_file, stands_in, Nested, IsNested}
 use Rattle.script_tree.proofs.Paths.{open_blocks, Descends, BlocksDescend}
 use Rattle.script_tree.proofs.Elements.{set_keeps, push_keeps}
@@ -31,12 +31,6 @@ pub record Holds (s : State) (tree : Tree) : Type 0 where
   pub blocks : (place : ℕ) (block : List Stmt) → slice_get s.blocks place ≡ Some block → AllByRecursion (StmtFits tree place) block
   pub events : (place : ℕ) (e : EventTree) → slice_get s.events place ≡ Some e → EventFits tree place e
   pub frames : FramesFit tree (s.top ∷ s.outer)
-
--- a group of events
-groups_are : (members : List ℕ) (o : Opener) (e : EventTree) → Groups members o e → is_group o ≡ true
-groups_are members o e a_choose = refl
-groups_are members o e a_wrap = refl
-groups_are members o e a_guard = refl
 
 -- a block in another one stands behind it
 record IsBehind (s : State) : Type 0 where

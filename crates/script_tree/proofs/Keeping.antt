@@ -1,36 +1,30 @@
 -- Moves keep what stands in what.
 use Rattle.std.proofs.Common.{◌≡◌, ◌∙◌, true, false, List, [], ◌∷◌, refl, sym, subst}
 use Rattle.std.proofs.lemmas.Bool.{false≢true}
+use Rattle.script_tree.specs.declared.form.BlockForm.{BlockForm}
+use Rattle.script_tree.specs.declared.form.BlockForm.TheVariants as block_form
 use Rattle.script_tree.specs.declared.form.GroupForm.TheVariants as group_form
 use Rattle.script_tree.specs.declared.opener.Opener.{Opener}
 use Rattle.script_tree.specs.declared.opener.Opener.TheVariants as opener
+use Rattle.script_tree.specs.Lines.{block_form_made}
+use Rattle.script_tree.specs.Parts.{Part}
 use Rattle.script_tree.specs.Reading.{State, Frame, holds_statements, holds_events}
-use Rattle.script_tree.proofs.Moves.{Moves, declares, begins_fiber, begins_main, states, adds_leaf, opens, opens_select, opens_group, begins_else, begins_catch, ends_text, ends_block, ends_select, ends_group, opens_block, IsBlock, a_block, IsSelect, a_select, IsGroup, a_group, Ends, a_text, the_main}
+use Rattle.script_tree.proofs.Moves.{Moves, begins_fiber, begins_main, opens, opens_select, opens_group, begins_else, begins_catch, ends_text, ends_block, ends_select, ends_group, IsBlock, a_block, IsSelect, a_select, IsGroup, a_group, Ends, a_text, the_main}
 use Rattle.script_tree.proofs.Nesting.{is_file, stands_in, Nested, IsNested}
 
-opens_in : (o around : Opener) → opens_block o ≡ true → stands_in o around ≡ holds_statements around
-opens_in (opener.Then l t r) around h = refl
-opens_in opener.Loop around h = refl
-opens_in opener.Try around h = refl
-opens_in opener.Forbid around h = refl
-opens_in opener.Permit around h = refl
-opens_in (opener.Under c) around h = refl
-opens_in (opener.Link a b) around h = refl
-opens_in (opener.Protect m) around h = refl
-opens_in opener.Bundle around h = refl
-opens_in opener.Flock around h = refl
-opens_in _ around h = absurd (false≢true h)
+block_form_in : (f : BlockForm) (parts : List Part) (around : Opener) → stands_in (block_form_made f parts) around ≡ holds_statements around
+block_form_in block_form.If parts around = refl
+block_form_in _ parts around = refl
 
 block_in : (s : State) (o around : Opener) → IsBlock s o → stands_in o around ≡ holds_statements around
-block_in s o around (a_block f parts p is) = opens_in o around is
+block_in s o around (a_block f parts p is) = block_form_in f parts around
 
 select_in : (s : State) (o around : Opener) → IsSelect s o → stands_in o around ≡ holds_statements around
 select_in s o around (a_select n v f parts p is) = refl
 
 group_in : (s : State) (o around : Opener) → IsGroup s o → stands_in o around ≡ holds_events around
 group_in s o around (a_group group_form.Choose parts p) = refl
-group_in s o around (a_group group_form.Wrap parts p) = refl
-group_in s o around (a_group group_form.Guard parts p) = refl
+group_in s o around _ = refl
 
 -- another part of a block stands where the first one stood
 part_in : (old new : Opener) (fs : List Frame) → is_file old ≡ false → ((around : Opener) → stands_in old around ≡ stands_in new around)
@@ -47,11 +41,8 @@ inner : (o : Opener) (f : Frame) (fs outer : List Frame) → outer ≡ f ∷ fs 
 inner o f fs outer e n = let m : Nested o (f ∷ fs) = subst (λ gs. Nested o gs) e n in m.1
 
 pub moves_nested : (s : State) {t : State} → Moves s t → IsNested s → IsNested t
-moves_nested s (declares f parts p h full) n = n
 moves_nested s (begins_fiber parts p h full) n = (h, n)
 moves_nested s (begins_main h) n = (h, n)
-moves_nested s (states x p h full breaks) n = n
-moves_nested s (adds_leaf f parts p h few) n = n
 moves_nested s (opens o p h full deep) n = (block_in s o s.top.what p ∙ h, n)
 moves_nested s (opens_select o p h full deep) n = (select_in s o s.top.what p ∙ h, n)
 moves_nested s (opens_group o p h deep) n = (group_in s o s.top.what p ∙ h, n)
@@ -62,3 +53,4 @@ moves_nested s (ends_text f behind e h ends) n = behind_file s.top.what behind e
 moves_nested s (ends_block f fs x e h becomes) n = inner s.top.what f fs s.outer e n
 moves_nested s (ends_select f fs number value e h is) n = inner s.top.what f fs s.outer e n
 moves_nested s (ends_group f fs x e h groups) n = inner s.top.what f fs s.outer e n
+moves_nested s _ n = n

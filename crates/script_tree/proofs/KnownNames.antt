@@ -14,7 +14,7 @@ use Rattle.script_tree.specs.Reading.{State, is_head, holds_statements, holds_ev
 use Rattle.script_tree.specs.WellFormed.{AreDistinct, names}
 use Rattle.script_tree.proofs.Distinct.{bytes_of, second_last}
 use Rattle.script_tree.proofs.Mains.{main_count, TextsMove, same_texts, a_fiber, main_begun, file_mains}
-use Rattle.script_tree.proofs.Moves.{Moves, declares, begins_fiber, begins_main, states, adds_leaf, opens, opens_select, opens_group, begins_else, begins_catch, ends_text, ends_block, ends_select, ends_group, opens_block, IsBlock, a_block, IsSelect, a_select, IsGroup, a_group, Ends, a_text, the_main}
+use Rattle.script_tree.proofs.Moves.{Moves, declares, begins_fiber, begins_main, states, adds_leaf, opens, opens_select, opens_group, ends_text, ends_block, ends_select, ends_group, opens_block, IsBlock, a_block, IsSelect, a_select, IsGroup, a_group, Ends, a_text, the_main}
 use Rattle.script_tree.proofs.Nesting.{IsNested, takes_texts}
 
 -- ---- declarations come first
@@ -43,8 +43,7 @@ select_no_head s o (a_select n v f parts p is) i = false≢true i
 
 group_no_head : (s : State) (o : Opener) → IsGroup s o → is_head o ≡ true → ⊥
 group_no_head s o (a_group group_form.Choose parts p) i = false≢true i
-group_no_head s o (a_group group_form.Wrap parts p) i = false≢true i
-group_no_head s o (a_group group_form.Guard parts p) i = false≢true i
+group_no_head s o _ i = false≢true i
 
 behind_no_head : (o behind : Opener) → Ends o behind → is_head behind ≡ true → ⊥
 behind_no_head o behind a_text i = false≢true i
@@ -56,19 +55,16 @@ HeadIsFirst s = is_head s.top.what ≡ true → s.texts ≡ []
 
 pub moves_head : (s : State) {t : State} → Moves s t → HeadIsFirst s → HeadIsFirst t
 moves_head s (declares f parts p h full) first = first
-moves_head s (begins_fiber parts p h full) first = λ i. absurd (false≢true i)
-moves_head s (begins_main h) first = λ i. absurd (false≢true i)
 moves_head s (states x p h full breaks) first = first
 moves_head s (adds_leaf f parts p h few) first = first
 moves_head s (opens o p h full deep) first = λ i. absurd (block_no_head s o p i)
 moves_head s (opens_select o p h full deep) first = λ i. absurd (select_no_head s o p i)
 moves_head s (opens_group o p h deep) first = λ i. absurd (group_no_head s o p i)
-moves_head s (begins_else a q b is) first = λ i. absurd (false≢true i)
-moves_head s (begins_catch parts p is) first = λ i. absurd (false≢true i)
 moves_head s (ends_text f behind e h ends) first = λ i. absurd (behind_no_head s.top.what behind ends i)
 moves_head s (ends_block f fs x e h becomes) first = λ i. absurd (statements_no_head f.what h i)
 moves_head s (ends_select f fs number value e h is) first = λ i. absurd (statements_no_head f.what h i)
 moves_head s (ends_group f fs x e h groups) first = λ i. absurd (events_no_head f.what h i)
+moves_head s _ first = λ i. absurd (false≢true i)
 
 -- ---- what names are known
 
@@ -140,17 +136,7 @@ moves_know s (begins_fiber parts p h full) m n first k =
     before_main none (bytes_push s.names _ ∙ ap (λ xs. xs ++ name_in (part_at parts 0) ∷ []) (knows_before s none k) ∙ with_text s.decls s.texts t)
 moves_know s (begins_main h) m n first k =
     with_main s.texts (record { name = codes "main"; block = length s.blocks }) refl refl refl (knows_before s (file_mains s.top.what s.outer h n) k)
-moves_know s (states x p h full breaks) m n first k = knows_same s _ refl refl refl m k
-moves_know s (adds_leaf f parts p h few) m n first k = knows_same s _ refl refl refl m k
-moves_know s (opens o p h full deep) m n first k = knows_same s _ refl refl refl m k
-moves_know s (opens_select o p h full deep) m n first k = knows_same s _ refl refl refl m k
-moves_know s (opens_group o p h deep) m n first k = knows_same s _ refl refl refl m k
-moves_know s (begins_else a q b is) m n first k = knows_same s _ refl refl refl m k
-moves_know s (begins_catch parts p is) m n first k = knows_same s _ refl refl refl m k
-moves_know s (ends_text f behind e h ends) m n first k = knows_same s _ refl refl refl m k
-moves_know s (ends_block f fs x e h becomes) m n first k = knows_same s _ refl refl refl m k
-moves_know s (ends_select f fs number value e h is) m n first k = knows_same s _ refl refl refl m k
-moves_know s (ends_group f fs x e h groups) m n first k = knows_same s _ refl refl refl m k
+moves_know s _ m n first k = knows_same s _ refl refl refl m k
 
 -- the names of a program are those that are known at its end
 pub distinct_names : (s : State) → main_count s ≡ 1 → AreDistinct (bytes_of s.names) → Knows s → AreDistinct (names (tree_of s))

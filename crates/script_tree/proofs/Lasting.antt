@@ -15,7 +15,7 @@ use Rattle.script_tree.specs.Tree.{Tree}
 use Rattle.script_tree.specs.WellFormed.{IsOfSort}
 use Rattle.script_tree.proofs.Fitting.{PlaceFits, ThingFits, NamesFit}
 use Rattle.script_tree.proofs.Mains.{main_count, TextsMove, same_texts, a_fiber, main_begun, texts_move, file_mains}
-use Rattle.script_tree.proofs.Moves.{Moves, declares, begins_fiber, begins_main, states, adds_leaf, opens, opens_select, opens_group, begins_else, begins_catch, ends_text, ends_block, ends_select, ends_group}
+use Rattle.script_tree.proofs.Moves.{Moves, declares, begins_fiber, states, adds_leaf, opens_select, opens_group, begins_else, begins_catch, ends_text, ends_block, ends_select, ends_group}
 use Rattle.script_tree.proofs.Nesting.{IsNested}
 
 -- the tree has the declarations of a state, and as many texts, blocks and events; it has one text more than
@@ -46,11 +46,8 @@ same_length xs place y = rw length-set (le_refl (length xs))
 lasts : (s : State) {t : State} → Moves s t → Lasts s t
 lasts s (declares f parts p h full) =
     record { more = record { name = name_in (part_at parts 0); kind = kind_made f parts } ∷ []; decls = refl; blocks = le_refl _; events = le_refl _ }
-lasts s (begins_fiber parts p h full) = record { more = []; decls = sym (append-nil s.decls); blocks = longer s.blocks []; events = le_refl _ }
-lasts s (begins_main h) = record { more = []; decls = sym (append-nil s.decls); blocks = longer s.blocks []; events = le_refl _ }
 lasts s (states x p h full breaks) = record { more = []; decls = sym (append-nil s.decls); blocks = le_refl _; events = le_refl _ }
 lasts s (adds_leaf f parts p h few) = record { more = []; decls = sym (append-nil s.decls); blocks = le_refl _; events = longer s.events _ }
-lasts s (opens o p h full deep) = record { more = []; decls = sym (append-nil s.decls); blocks = longer s.blocks []; events = le_refl _ }
 lasts s (opens_select o p h full deep) = record { more = []; decls = sym (append-nil s.decls); blocks = le_refl _; events = le_refl _ }
 lasts s (opens_group o p h deep) = record { more = []; decls = sym (append-nil s.decls); blocks = le_refl _; events = longer s.events _ }
 lasts s (begins_else l q r is) =
@@ -64,6 +61,7 @@ lasts s (ends_block f fs x e h becomes) =
 lasts s (ends_select f fs number value e h is) = record { more = []; decls = sym (append-nil s.decls); blocks = le_refl _; events = le_refl _ }
 lasts s (ends_group f fs x e h groups) =
     record { more = []; decls = sym (append-nil s.decls); blocks = le_refl _; events = same_length s.events s.top.place x }
+lasts s _ = record { more = []; decls = sym (append-nil s.decls); blocks = longer s.blocks []; events = le_refl _ }
 
 texts_last : (s t : State) (n : ℕ) → TextsMove s t → length t.texts + 1 ≤ n + main_count t → length s.texts + 1 ≤ n + main_count s
 texts_last s t n (same_texts e m) h = let l = ap (λ (ts : List Text). length ts) e in omega (arith, l, m, h)
@@ -99,13 +97,7 @@ at_end (y ∷ xs) x ys = at_end xs x ys
 -- a declared thing is in the tree
 decl_place : (tree : Tree) (k : Kind) (place : ℕ) → IsOfSort (λ n. n == sort_number (sort_of k)) (slice_get tree.decls place) → PlaceFits tree (sort_of k) place
 decl_place tree kind.Trigger place h = h
-decl_place tree kind.Comp place h = h
-decl_place tree kind.Mutex place h = h
-decl_place tree kind.Cond place h = h
-decl_place tree (kind.Sem c) place h = h
-decl_place tree (kind.Latch c) place h = h
-decl_place tree kind.Ivar place h = h
-decl_place tree kind.Stream place h = h
+decl_place tree _ place h = h
 
 declared_fits : (tree : Tree) (decls others : List Decl) (d : Decl) → tree.decls ≡ (decls ++ d ∷ []) ++ others → PlaceFits tree (sort_of d.kind) (length decls)
 declared_fits tree decls others d e =
@@ -122,15 +114,4 @@ moves_names s tree (begins_fiber parts p h full) n l names =
     (let none = file_mains s.top.what s.outer h n in
     let more = length-append s.texts (record { name = name_in (part_at parts 0); block = length s.blocks } ∷ []) in
     let fits = l.texts in omega (arith, fits, none, more))
-moves_names s tree (begins_main h) n l names = names
-moves_names s tree (states x p h full breaks) n l names = names
-moves_names s tree (adds_leaf f parts p h few) n l names = names
-moves_names s tree (opens o p h full deep) n l names = names
-moves_names s tree (opens_select o p h full deep) n l names = names
-moves_names s tree (opens_group o p h deep) n l names = names
-moves_names s tree (begins_else a q b is) n l names = names
-moves_names s tree (begins_catch parts p is) n l names = names
-moves_names s tree (ends_text f behind e h ends) n l names = names
-moves_names s tree (ends_block f fs x e h becomes) n l names = names
-moves_names s tree (ends_select f fs number value e h is) n l names = names
-moves_names s tree (ends_group f fs x e h groups) n l names = names
+moves_names s tree _ n l names = names

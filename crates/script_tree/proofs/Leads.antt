@@ -20,10 +20,10 @@ use Rattle.script_tree.specs.declared.form.EventForm.{EventForm}
 use Rattle.script_tree.specs.declared.form.EventForm.TheVariants as event_form
 use Rattle.script_tree.specs.declared.form.GroupForm.{GroupForm}
 use Rattle.script_tree.specs.declared.form.GroupForm.TheVariants as group_form
-use Rattle.script_tree.specs.declared.form.TheConstants.{FORMS, EVENTS}
-use Rattle.script_tree.specs.Forms.{keyword, decl_form_keyword, basic_form_keyword, comp_form_keyword, object_form_keyword, fiber_form_keyword, block_form_keyword, event_form_keyword, group_form_keyword, shapes, decl_form_shapes, basic_form_shapes, comp_form_shapes, object_form_shapes, fiber_form_shapes, block_form_shapes, event_form_shapes, group_form_shapes, first_form, Seen, seen, event_of, form_of}
+use Rattle.script_tree.specs.Forms.{keyword, decl_form_keyword, basic_form_keyword, comp_form_keyword, object_form_keyword, fiber_form_keyword, block_form_keyword, event_form_keyword, group_form_keyword, shapes, decl_form_shapes, basic_form_shapes, comp_form_shapes, object_form_shapes, fiber_form_shapes, block_form_shapes, event_form_shapes, group_form_shapes, line_forms, on_forms, first_form, Seen, seen, event_of, form_of}
 use Rattle.script_tree.specs.Parts.{Shape}
 use Rattle.script_tree.specs.Spelling.{lead}
+use Rattle.script_tree.specs.Told.{EachFormIsTold, IsTold}
 use Rattle.script_tree.proofs.Paths.{IsWord}
 use Rattle.script_tree.proofs.Spelled.{bytes_same, word_test, tested}
 
@@ -79,14 +79,14 @@ saw (Some f) rest s h =
 event_lead : (words : List (List ℕ)) (s : Seen) → event_of words ≡ Some s → lead s.form ++ s.rest ≡ codes "on" ∷ words
 event_lead [] s h = absurd (cc)
 event_lead (w ∷ ws) s h =
-    let x = saw (first_form EVENTS w) ws s h in
-    let t = first_tells is_event EVENTS w s.form refl x.form_is in
+    let x = saw (first_form on_forms w) ws s h in
+    let t = first_tells is_event on_forms w s.form refl x.form_is in
     ap₂ (λ (xs ys : List (List ℕ)). xs ++ ys) (lead_event s.form t.passes) x.rest_is ∙ ap (λ (v : List ℕ). codes "on" ∷ (v ∷ ws)) t.tells
 
-other_lead : (w : List ℕ) (ws : List (List ℕ)) (s : Seen) → seen (first_form FORMS w) ws ≡ Some s → lead s.form ++ s.rest ≡ w ∷ ws
+other_lead : (w : List ℕ) (ws : List (List ℕ)) (s : Seen) → seen (first_form line_forms w) ws ≡ Some s → lead s.form ++ s.rest ≡ w ∷ ws
 other_lead w ws s h =
-    let x = saw (first_form FORMS w) ws s h in
-    let t = first_tells (λ f. not (is_event f)) FORMS w s.form refl x.form_is in
+    let x = saw (first_form line_forms w) ws s h in
+    let t = first_tells (λ f. not (is_event f)) line_forms w s.form refl x.form_is in
     ap₂ (λ (xs ys : List (List ℕ)). xs ++ ys) (lead_other s.form t.passes) x.rest_is ∙ ap (λ (v : List ℕ). v ∷ ws) t.tells
 
 -- the words that tell a form stand before those behind it
@@ -162,3 +162,57 @@ pub record IsLead (words : List (List ℕ)) : Type 0 where
 pub lead_words : (f : Form) → IsLead (lead f)
 lead_words (form.Event f) = record { some = omega arith; few = omega arith; each = (tested _ refl, (keyword_word (form.Event f), tt)) }
 lead_words f = record { some = omega arith; few = omega arith; each = (keyword_word f, tt) }
+
+-- ---- each form is told by its words
+
+decl_told : (f : DeclForm) → IsTold (form.Declare f)
+unfolding keyword
+decl_told decl_form.Trigger rest = refl
+decl_told _ rest = refl
+
+basic_told : (f : BasicForm) → IsTold (form.Basic f)
+unfolding keyword
+basic_told basic_form.Set rest = refl
+basic_told _ rest = refl
+
+comp_told : (f : CompForm) → IsTold (form.Comp f)
+unfolding keyword
+comp_told comp_form.Signal rest = refl
+comp_told _ rest = refl
+
+object_told : (f : ObjectForm) → IsTold (form.Object f)
+unfolding keyword
+object_told object_form.Lock rest = refl
+object_told _ rest = refl
+
+fiber_told : (f : FiberForm) → IsTold (form.Fork f)
+unfolding keyword
+fiber_told fiber_form.Spawn rest = refl
+fiber_told _ rest = refl
+
+block_told : (f : BlockForm) → IsTold (form.Block f)
+unfolding keyword
+block_told block_form.If rest = refl
+block_told _ rest = refl
+
+event_told : (f : EventForm) → IsTold (form.Event f)
+unfolding keyword
+event_told event_form.Ivar rest = refl
+event_told _ rest = refl
+
+group_told : (f : GroupForm) → IsTold (form.Group f)
+unfolding keyword
+group_told group_form.Choose rest = refl
+group_told _ rest = refl
+
+pub all_told : EachFormIsTold
+unfolding keyword
+all_told (form.Declare f) rest = decl_told f rest
+all_told (form.Basic f) rest = basic_told f rest
+all_told (form.Comp f) rest = comp_told f rest
+all_told (form.Object f) rest = object_told f rest
+all_told (form.Fork f) rest = fiber_told f rest
+all_told (form.Block f) rest = block_told f rest
+all_told (form.Event f) rest = event_told f rest
+all_told (form.Group f) rest = group_told f rest
+all_told _ rest = refl

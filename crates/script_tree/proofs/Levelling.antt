@@ -6,7 +6,7 @@ use Rattle.script_tree.specs.Levels.{Levels, IsAt}
 use Rattle.script_tree.specs.Lines.{event_form_made}
 use Rattle.script_tree.specs.Reading.{State, outermost, inside}
 use Rattle.script_tree.proofs.Lasting.{at_end}
-use Rattle.script_tree.proofs.Moves.{Moves, declares, begins_fiber, begins_main, states, adds_leaf, opens, opens_select, opens_group, begins_else, begins_catch, ends_text, ends_block, ends_select, ends_group}
+use Rattle.script_tree.proofs.Moves.{Moves, begins_fiber, begins_main, adds_leaf, opens, opens_group, begins_else, begins_catch, ends_text, ends_block, ends_group}
 
 -- ---- the levels of what was read
 
@@ -18,20 +18,14 @@ with_event_level made level = record made { events = made.events ++ level ∷ []
 
 -- a block or an event that a move adds has its level
 abbrev pub levels_after : (s : State) {t : State} → Levels → Moves s t → Levels
-levels_after s made (declares f parts p h full) = made
 levels_after s made (begins_fiber parts p h full) = with_block made outermost
 levels_after s made (begins_main h) = with_block made outermost
-levels_after s made (states x p h full breaks) = made
 levels_after s made (adds_leaf f parts p h few) = with_event_level made s.top.level
 levels_after s made (opens o p h full deep) = with_block made (inside s.top.level o)
-levels_after s made (opens_select o p h full deep) = made
 levels_after s made (opens_group o p h deep) = with_event_level made s.top.level
 levels_after s made (begins_else l t r is) = with_block made s.top.level
 levels_after s made (begins_catch parts p is) = with_block made s.top.level
-levels_after s made (ends_text f behind e h ends) = made
-levels_after s made (ends_block f fs x e h becomes) = made
-levels_after s made (ends_select f fs number value e h is) = made
-levels_after s made (ends_group f fs x e h groups) = made
+levels_after s made _ = made
 
 -- each block and event has a level
 pub record Leveled (s : State) (made : Levels) : Type 0 where
@@ -46,22 +40,19 @@ with_part s made l =
     one_longer made.blocks (set s.blocks s.top.place s.top.stmts) s.top.level [] (l.blocks ∙ sym (length-set s.blocks s.top.place s.top.stmts))
 
 pub moves_leveled : (s : State) {t : State} (made : Levels) (m : Moves s t) → Leveled s made → Leveled t (levels_after s made m)
-moves_leveled s made (declares f parts p h full) l = record { blocks = l.blocks; events = l.events }
 moves_leveled s made (begins_fiber parts p h full) l = record { blocks = one_longer made.blocks s.blocks outermost [] l.blocks; events = l.events }
 moves_leveled s made (begins_main h) l = record { blocks = one_longer made.blocks s.blocks outermost [] l.blocks; events = l.events }
-moves_leveled s made (states x p h full breaks) l = record { blocks = l.blocks; events = l.events }
 moves_leveled s made (adds_leaf f parts p h few) l =
     record { blocks = l.blocks; events = one_longer made.events s.events s.top.level (event_form_made f parts) l.events }
 moves_leveled s made (opens o p h full deep) l =
     record { blocks = one_longer made.blocks s.blocks (inside s.top.level o) [] l.blocks; events = l.events }
-moves_leveled s made (opens_select o p h full deep) l = record { blocks = l.blocks; events = l.events }
 moves_leveled s made (opens_group o p h deep) l = record { blocks = l.blocks; events = one_longer made.events s.events s.top.level (event.Choose []) l.events }
 moves_leveled s made (begins_else a q b is) l = record { blocks = with_part s made l; events = l.events }
 moves_leveled s made (begins_catch parts p is) l = record { blocks = with_part s made l; events = l.events }
 moves_leveled s made (ends_text f behind e h ends) l = record { blocks = l.blocks ∙ sym (length-set s.blocks s.top.place s.top.stmts); events = l.events }
 moves_leveled s made (ends_block f fs x e h becomes) l = record { blocks = l.blocks ∙ sym (length-set s.blocks s.top.place s.top.stmts); events = l.events }
-moves_leveled s made (ends_select f fs number value e h is) l = record { blocks = l.blocks; events = l.events }
 moves_leveled s made (ends_group f fs x e h groups) l = record { blocks = l.blocks; events = l.events ∙ sym (length-set s.events s.top.place x) }
+moves_leveled s made _ l = record { blocks = l.blocks; events = l.events }
 
 -- these levels, and maybe more
 pub record Extends (made levels : Levels) : Type 0 where
@@ -90,20 +81,14 @@ without_event made levels level e = record {
 }
 
 pub extends_back : (s : State) {t : State} (made levels : Levels) (m : Moves s t) → Extends (levels_after s made m) levels → Extends made levels
-extends_back s made levels (declares f parts p h full) e = e
 extends_back s made levels (begins_fiber parts p h full) e = without_block made levels outermost e
 extends_back s made levels (begins_main h) e = without_block made levels outermost e
-extends_back s made levels (states x p h full breaks) e = e
 extends_back s made levels (adds_leaf f parts p h few) e = without_event made levels s.top.level e
 extends_back s made levels (opens o p h full deep) e = without_block made levels (inside s.top.level o) e
-extends_back s made levels (opens_select o p h full deep) e = e
 extends_back s made levels (opens_group o p h deep) e = without_event made levels s.top.level e
 extends_back s made levels (begins_else a q b is) e = without_block made levels s.top.level e
 extends_back s made levels (begins_catch parts p is) e = without_block made levels s.top.level e
-extends_back s made levels (ends_text f behind i h ends) e = e
-extends_back s made levels (ends_block f fs x i h becomes) e = e
-extends_back s made levels (ends_select f fs number value i h is) e = e
-extends_back s made levels (ends_group f fs x i h groups) e = e
+extends_back s made levels _ e = e
 
 -- the level of the block or event that comes next
 pub next_block : (s : State) (made levels : Levels) (level : Level) → Leveled s made → Extends (with_block made level) levels

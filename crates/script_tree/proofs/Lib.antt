@@ -14,7 +14,6 @@ pub mod Each
 pub mod EachStatement
 pub mod Elements
 pub mod Endings
-pub mod Ends
 pub mod Fitting
 pub mod Formed
 pub mod Frames
@@ -36,7 +35,6 @@ pub mod Moving
 pub mod Naming
 pub mod Nesting
 pub mod Numerals
-pub mod OpenGroups
 pub mod Openings
 pub mod Paths
 pub mod Pathways

@@ -9,7 +9,7 @@ use Rattle.script_tree.specs.declared.program.Stmt.{Stmt}
 use Rattle.script_tree.specs.declared.program.Text.{Text}
 use Rattle.script_tree.specs.Lines.{name_in, number_in, part_at}
 use Rattle.script_tree.specs.Reading.{State, Frame, is_over}
-use Rattle.script_tree.proofs.Moves.{Moves, declares, begins_fiber, begins_main, states, adds_leaf, opens, opens_select, opens_group, begins_else, begins_catch, ends_text, ends_block, ends_select, ends_group, opens_block, IsBlock, a_block, IsSelect, a_select, IsGroup, a_group, Becomes, a_then, an_else, a_loop, a_handler, a_forbid, a_permit, an_under, a_link, a_protect, a_bundle, a_flock, Groups, a_choose, a_wrap, a_guard, Ends, a_text, the_main}
+use Rattle.script_tree.proofs.Moves.{Moves, begins_fiber, begins_main, opens, opens_select, opens_group, begins_else, begins_catch, ends_text, ends_block, ends_select, ends_group, opens_block, IsBlock, a_block, IsSelect, a_select, IsGroup, a_group, Becomes, a_then, Groups, a_choose, Ends, a_text, the_main}
 use Rattle.script_tree.proofs.Moving.{alone, text_file}
 use Rattle.script_tree.proofs.Nesting.{takes_texts, Nested, IsNested}
 
@@ -53,26 +53,15 @@ select_inner s o (a_select n v f parts p is) = (refl, refl)
 
 group_inner : (s : State) (o : Opener) → IsGroup s o → IsInner o
 group_inner s o (a_group group_form.Choose parts p) = (refl, refl)
-group_inner s o (a_group group_form.Wrap parts p) = (refl, refl)
-group_inner s o (a_group group_form.Guard parts p) = (refl, refl)
+group_inner s o _ = (refl, refl)
 
 becomes_inner : (place : ℕ) (o : Opener) (x : Stmt) → Becomes place o x → IsInner o
 becomes_inner place o x a_then = (refl, refl)
-becomes_inner place o x an_else = (refl, refl)
-becomes_inner place o x a_loop = (refl, refl)
-becomes_inner place o x a_handler = (refl, refl)
-becomes_inner place o x a_forbid = (refl, refl)
-becomes_inner place o x a_permit = (refl, refl)
-becomes_inner place o x an_under = (refl, refl)
-becomes_inner place o x a_link = (refl, refl)
-becomes_inner place o x a_protect = (refl, refl)
-becomes_inner place o x a_bundle = (refl, refl)
-becomes_inner place o x a_flock = (refl, refl)
+becomes_inner place o x _ = (refl, refl)
 
 groups_inner : (members : List ℕ) (o : Opener) (e : EventTree) → Groups members o e → IsInner o
 groups_inner members o e a_choose = (refl, refl)
-groups_inner members o e a_wrap = (refl, refl)
-groups_inner members o e a_guard = (refl, refl)
+groups_inner members o e _ = (refl, refl)
 
 -- what a move does to the texts
 pub data TextsMove (s t : State) : Type 0 where
@@ -100,14 +89,11 @@ text_mains o behind f h a_text = ap (λ b. cond b 1 0) (sym (not_over f.what h))
 text_mains o behind f h the_main = refl
 
 pub texts_move : (s : State) {t : State} → Moves s t → IsNested s → TextsMove s t
-texts_move s (declares f parts p h full) n = same_texts refl refl
 texts_move s (begins_fiber parts p h full) n =
     let none = file_mains s.top.what s.outer h n in
     a_fiber (record { name = name_in (part_at parts 0); block = length s.blocks }) refl none none
 texts_move s (begins_main h) n =
     main_begun (record { name = codes "main"; block = length s.blocks }) refl refl (file_mains s.top.what s.outer h n) refl
-texts_move s (states x p h full breaks) n = same_texts refl refl
-texts_move s (adds_leaf f parts p h few) n = same_texts refl refl
 texts_move s (opens o p h full deep) n = same_texts refl (inner_mains o s.top s.outer (block_inner s o p))
 texts_move s (opens_select o p h full deep) n = same_texts refl (inner_mains o s.top s.outer (select_inner s o p))
 texts_move s (opens_group o p h deep) n = same_texts refl (inner_mains o s.top s.outer (group_inner s o p))
@@ -121,6 +107,7 @@ texts_move s (ends_block f fs x e h becomes) n = same_texts refl (ended s f fs e
 texts_move s (ends_select f fs number value e h is) n =
     same_texts refl (ended s f fs e (subst (λ o. IsInner o) (sym is) (refl, refl)))
 texts_move s (ends_group f fs x e h groups) n = same_texts refl (ended s f fs e (groups_inner s.top.events s.top.what x groups))
+texts_move s _ n = same_texts refl refl
 
 pub mains_few : (o : Opener) (fs : List Frame) → mains o fs ≤ 1
 mains_few o [] = few (is_over o) 0 (omega arith)

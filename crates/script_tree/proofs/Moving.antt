@@ -27,7 +27,7 @@ use Rattle.script_tree.specs.declared.program.Stmt.TheVariants as stmt
 use Rattle.script_tree.specs.declared.program.Test.{Test}
 use Rattle.script_tree.specs.Lines.{line_made, block_form_made, group_form_made, basic_form_made, comp_form_made, object_form_made, fiber_form_made}
 use Rattle.script_tree.specs.Parts.{Part}
-use Rattle.script_tree.specs.Reading.{State, Frame, after, closed, else_closed, opened, left, else_begun, is_head, is_between, is_then, is_try, holds_statements, holds_events, fits, is_full, is_line_deep, limit_broken, with_stmt, with_event, is_deep}
+use Rattle.script_tree.specs.Reading.{State, Frame, after, closed, else_closed, opened, left, else_begun, is_head, is_between, is_then, is_try, holds_statements, holds_events, fits, is_group, is_full, is_line_deep, limit_broken, with_stmt, with_event, is_deep}
 use Rattle.script_tree.proofs.Moves.{Moves, declares, begins_fiber, begins_main, states, adds_leaf, opens, opens_select, opens_group, begins_else, begins_catch, ends_text, ends_block, ends_select, ends_group, basic, on_comps, on_objects, on_fibers, a_block, a_select, a_group, Becomes, a_then, an_else, a_loop, a_handler, a_forbid, a_permit, an_under, a_link, a_protect, a_bundle, a_flock, Groups, a_choose, a_wrap, a_guard, Ends, a_text, the_main, is_break}
 use Rattle.script_tree.proofs.Nesting.{is_file, takes_texts, stands_in, Nested, IsNested}
 use Rattle.script_tree.proofs.Paths.{is_bare_else, ends_bare_else, Takes}
@@ -58,53 +58,24 @@ is_a_try _ h = absurd (false≢true h)
 -- a block stands in what holds statements, and isn't the file
 pub becomes_in : (place : ℕ) (o : Opener) (x : Stmt) (around : Opener) → Becomes place o x → stands_in o around ≡ holds_statements around
 becomes_in place o x around a_then = refl
-becomes_in place o x around an_else = refl
-becomes_in place o x around a_loop = refl
-becomes_in place o x around a_handler = refl
-becomes_in place o x around a_forbid = refl
-becomes_in place o x around a_permit = refl
-becomes_in place o x around an_under = refl
-becomes_in place o x around a_link = refl
-becomes_in place o x around a_protect = refl
-becomes_in place o x around a_bundle = refl
-becomes_in place o x around a_flock = refl
+becomes_in place o x around _ = refl
 
 -- and holds statements
 pub becomes_holds : (place : ℕ) (o : Opener) (x : Stmt) → Becomes place o x → holds_statements o ≡ true
 becomes_holds place o x a_then = refl
-becomes_holds place o x an_else = refl
-becomes_holds place o x a_loop = refl
-becomes_holds place o x a_handler = refl
-becomes_holds place o x a_forbid = refl
-becomes_holds place o x a_permit = refl
-becomes_holds place o x an_under = refl
-becomes_holds place o x a_link = refl
-becomes_holds place o x a_protect = refl
-becomes_holds place o x a_bundle = refl
-becomes_holds place o x a_flock = refl
+becomes_holds place o x _ = refl
 
 pub becomes_no_file : (place : ℕ) (o : Opener) (x : Stmt) → Becomes place o x → is_file o ≡ false
 becomes_no_file place o x a_then = refl
-becomes_no_file place o x an_else = refl
-becomes_no_file place o x a_loop = refl
-becomes_no_file place o x a_handler = refl
-becomes_no_file place o x a_forbid = refl
-becomes_no_file place o x a_permit = refl
-becomes_no_file place o x an_under = refl
-becomes_no_file place o x a_link = refl
-becomes_no_file place o x a_protect = refl
-becomes_no_file place o x a_bundle = refl
-becomes_no_file place o x a_flock = refl
+becomes_no_file place o x _ = refl
 
 groups_in : (members : List ℕ) (o : Opener) (e : EventTree) (around : Opener) → Groups members o e → stands_in o around ≡ holds_events around
 groups_in members o e around a_choose = refl
-groups_in members o e around a_wrap = refl
-groups_in members o e around a_guard = refl
+groups_in members o e around _ = refl
 
 groups_no_file : (members : List ℕ) (o : Opener) (e : EventTree) → Groups members o e → is_file o ≡ false
 groups_no_file members o e a_choose = refl
-groups_no_file members o e a_wrap = refl
-groups_no_file members o e a_guard = refl
+groups_no_file members o e _ = refl
 
 ends_in : (o behind around : Opener) → Ends o behind → stands_in o around ≡ takes_texts around
 ends_in o behind around a_text = refl
@@ -113,6 +84,14 @@ ends_in o behind around the_main = refl
 ends_no_file : (o behind : Opener) → Ends o behind → is_file o ≡ false
 ends_no_file o behind a_text = refl
 ends_no_file o behind the_main = refl
+
+pub groups_are : (members : List ℕ) (o : Opener) (e : EventTree) → Groups members o e → is_group o ≡ true
+groups_are members o e a_choose = refl
+groups_are members o e _ = refl
+
+pub ends_holds : (o behind : Opener) → Ends o behind → holds_statements o ≡ true
+ends_holds o behind a_text = refl
+ends_holds o behind the_main = refl
 
 pub text_file : (o : Opener) → takes_texts o ≡ true → is_file o ≡ true
 text_file opener.Head h = refl
@@ -170,10 +149,6 @@ ends s o behind is n b = text_ends s behind s.outer refl n (subst (λ p. Ends p 
 
 closes : (s : State) (o : Opener) (breaks : Bool) → s.top.what ≡ o → fits o breaks form.End ≡ true → is_bare_else o s.top.stmts ≡ false
     → IsNested s → Moves s (closed s o)
-closes s opener.Head breaks is fit bare n = absurd (false≢true fit)
-closes s opener.Between breaks is fit bare n = absurd (false≢true fit)
-closes s opener.Over breaks is fit bare n = absurd (false≢true fit)
-closes s opener.Try breaks is fit bare n = absurd (false≢true fit)
 closes s opener.Text breaks is fit bare n = ends s opener.Text opener.Between is n a_text
 closes s opener.Main breaks is fit bare n = ends s opener.Main opener.Over is n the_main
 closes s (opener.Then l t r) breaks is fit bare n = becomes s _ _ is n a_then
@@ -191,6 +166,7 @@ closes s (opener.Select number value) breaks is fit bare n = select_ends s numbe
 closes s opener.Choose breaks is fit bare n = groups s _ _ is n a_choose
 closes s (opener.Wrap o) breaks is fit bare n = groups s _ _ is n a_wrap
 closes s (opener.Guard l t r) breaks is fit bare n = groups s _ _ is n a_guard
+closes s _ breaks is fit bare n = absurd (false≢true fit)
 
 -- ---- openings
 

@@ -16,7 +16,7 @@ use Rattle.script_tree.specs.Reading.{State, declared, fiber_begun, text_begun, 
 use Rattle.script_tree.specs.Tree.{Tree}
 use Rattle.script_tree.specs.declared.line.Line.TheVariants as line
 use Rattle.script_tree.proofs.Allowed.{May, role_file, role_head, role_statements, role_events}
-use Rattle.script_tree.proofs.OpenGroups.{open_groups, GroupsDescend}
+use Rattle.script_tree.proofs.Groups.{open_groups, GroupsDescend}
 use Rattle.script_tree.proofs.Settled.{Settles}
 use Rattle.script_tree.proofs.Standing.{Around, fiber, main, block, select, group, Stands, in_file, behind, in_block, in_events, Goes, is_block, begun, stmts_shown, events_shown, enough, stmts_push, events_push, decl_more}
 use Rattle.script_tree.proofs.Staying.{pushed_in}
@@ -182,13 +182,6 @@ group_goes tree s o text g ho less may (in_events depth levels front h l d a i) 
 
 pub opening_goes : (tree : Tree) (s : State) (o : Opener) (text : List ℕ) (f : Form) → opener_form o ≡ Some f → s.top.level.depth < 32
     → May s.top.what (line.Open o) → Stands tree s text → Goes tree (opened s o) text (opener_form o) (opener_parts o)
-opening_goes tree s opener.Head text f e less may a = cc
-opening_goes tree s opener.Between text f e less may a = cc
-opening_goes tree s opener.Over text f e less may a = cc
-opening_goes tree s opener.Text text f e less may a = cc
-opening_goes tree s opener.Main text f e less may a = cc
-opening_goes tree s (opener.Otherwise l t r place) text f e less may a = cc
-opening_goes tree s (opener.Catch place register) text f e less may a = cc
 opening_goes tree s (opener.Select number value) text f e less may a = select_goes tree s number value text less may a
 opening_goes tree s opener.Choose text f e less may a = group_goes tree s opener.Choose text refl refl less may a
 opening_goes tree s (opener.Wrap o) text f e less may a = group_goes tree s (opener.Wrap o) text refl refl less may a
@@ -203,3 +196,4 @@ opening_goes tree s (opener.Link p q) text f e less may a = block_goes tree s (o
 opening_goes tree s (opener.Protect m) text f e less may a = block_goes tree s (opener.Protect m) text refl refl (λ d n. refl) less may a
 opening_goes tree s opener.Bundle text f e less may a = block_goes tree s opener.Bundle text refl refl (λ d n. refl) less may a
 opening_goes tree s opener.Flock text f e less may a = block_goes tree s opener.Flock text refl refl (λ d n. refl) less may a
+opening_goes tree s _ text f e less may a = cc

@@ -24,7 +24,7 @@ use Rattle.script_tree.specs.Lines.{line_made}
 use Rattle.script_tree.specs.Parts.{Part, words_read}
 use Rattle.script_tree.specs.Reading.{State, Frame, start, after, left, closed, fits, with_stmt, limit_broken, is_over, is_head, is_between, holds_events, part_begun}
 use Rattle.script_tree.specs.Tree.{Tree}
-use Rattle.script_tree.proofs.Moves.{Moves, declares, begins_fiber, begins_main, states, adds_leaf, opens, opens_select, opens_group, begins_else, begins_catch, ends_text, ends_block, ends_select, ends_group, IsBlock, a_block, IsSelect, a_select, IsGroup, a_group, opens_block, Ends, a_text, the_main}
+use Rattle.script_tree.proofs.Moves.{Moves, declares, states, adds_leaf, opens, opens_select, opens_group, begins_else, ends_text, ends_block, ends_select, ends_group, IsBlock, a_block, IsSelect, a_select, IsGroup, a_group, opens_block, Ends, a_text, the_main}
 use Rattle.script_tree.proofs.Moving.{moves}
 use Rattle.script_tree.proofs.Keeping.{moves_nested}
 use Rattle.script_tree.proofs.Nesting.{Nested, IsNested, is_file}
@@ -80,8 +80,7 @@ block_opened_not_bare s o (a_block f parts p is) b = block_not_bare o is b
 
 group_opened_not_bare : (s : State) (o : Opener) → IsGroup s o → is_bare_else o [] ≡ true → ⊥
 group_opened_not_bare s o (a_group group_form.Choose parts p) b = false≢true b
-group_opened_not_bare s o (a_group group_form.Wrap parts p) b = false≢true b
-group_opened_not_bare s o (a_group group_form.Guard parts p) b = false≢true b
+group_opened_not_bare s o _ b = false≢true b
 
 select_opened_not_bare : (s : State) (o : Opener) → IsSelect s o → is_bare_else o [] ≡ true → ⊥
 select_opened_not_bare s o (a_select n v f parts p is) b = false≢true b
@@ -92,8 +91,6 @@ behind_text_not_bare o behind xs the_main b = false≢true b
 
 began_bare : (s t : State) (lines : List (List (List ℕ))) → Path s lines → Moves s t → IsBare t → BeganBare t
 began_bare s t lines path (declares f parts p h full) b = absurd (head_not_bare s.top.what s.top.stmts h b)
-began_bare s t lines path (begins_fiber parts p h full) b = absurd (false≢true b)
-began_bare s t lines path (begins_main h) b = absurd (false≢true b)
 began_bare s t lines path (states x p h full breaks) b = absurd (filled_not_bare s.top.what s.top.stmts x b)
 began_bare s t lines path (adds_leaf f parts p h few) b = absurd (holder_of_events_not_bare s.top.what s.top.stmts h b)
 began_bare s t lines path (opens o p h full deep) b = absurd (block_opened_not_bare s o p b)
@@ -101,11 +98,11 @@ began_bare s t lines path (opens_select o p h full deep) b = absurd (select_open
 began_bare s t lines path (opens_group o p h deep) b = absurd (group_opened_not_bare s o p b)
 began_bare s t lines path (begins_else l q r is) b =
     record { before = s; lines = lines; path = path; left = l; test = q; right = r; what = is; is = refl }
-began_bare s t lines path (begins_catch parts p is) b = absurd (false≢true b)
 began_bare s t lines path (ends_text f behind e h ends) b = absurd (behind_text_not_bare s.top.what behind f.stmts ends b)
 began_bare s t lines path (ends_block f fs x e h becomes) b = absurd (filled_not_bare f.what f.stmts x b)
 began_bare s t lines path (ends_select f fs n v e h is) b = absurd (filled_not_bare f.what f.stmts _ b)
 began_bare s t lines path (ends_group f fs e is h groups) b = absurd (holder_of_events_not_bare f.what f.stmts h b)
+began_bare s t lines path _ b = absurd (false≢true b)
 
 -- ---- states that are reached
 
@@ -132,18 +129,7 @@ reached_on s t lines words l path taken bare = record {
 
 ends_made : (f : Form) (parts : List Part) → line_made f parts ≡ line.End → f ≡ form.End
 ends_made form.End parts h = refl
-ends_made (form.Declare f) parts h = cc
-ends_made form.Fiber parts h = cc
-ends_made form.Main parts h = cc
-ends_made form.Else parts h = cc
-ends_made form.Catch parts h = cc
-ends_made (form.Basic f) parts h = cc
-ends_made (form.Comp f) parts h = cc
-ends_made (form.Object f) parts h = cc
-ends_made (form.Fork f) parts h = cc
-ends_made (form.Block f) parts h = cc
-ends_made (form.Event f) parts h = cc
-ends_made (form.Group f) parts h = cc
+ends_made _ parts h = cc
 
 -- without its block the blocks are those of the `if` that ends
 last_gone : (blocks : List (List Stmt)) → take (length (blocks ++ [] ∷ []) - 1) (blocks ++ [] ∷ []) ≡ blocks
@@ -198,14 +184,7 @@ bare_ends s t words taken b =
 
 bare_end : (s : State) (l : Line) → ends_bare_else s l ≡ true → (l ≡ line.End) × IsBare s
 bare_end s line.End h = (refl, h)
-bare_end s (line.Declare k name) h = absurd (false≢true h)
-bare_end s (line.Fiber name) h = absurd (false≢true h)
-bare_end s line.Main h = absurd (false≢true h)
-bare_end s line.Else h = absurd (false≢true h)
-bare_end s (line.Catch r) h = absurd (false≢true h)
-bare_end s (line.Plain x) h = absurd (false≢true h)
-bare_end s (line.Open o) h = absurd (false≢true h)
-bare_end s (line.Leaf e) h = absurd (false≢true h)
+bare_end s _ h = absurd (false≢true h)
 
 -- ---- rows
 

@@ -1,51 +1,52 @@
 -- The parts that words are read as are what their shapes want, also as the lines made of them have them.
-use Rattle.std.proofs.Common.{◌≡◌, ℕ, suc, ◌+◌, ◌∙◌, add-zero, arith, Result, Ok, Err, List, [], ◌∷◌, refl, sym, ap, subst}
+use Rattle.std.proofs.Common.{◌≡◌, ℕ, Result, Ok, Err, List, [], ◌∷◌, refl, sym, subst}
 use Rattle.script_tree.specs.declared.cause.Cause.{Cause}
-use Rattle.script_tree.specs.Lines.{part_at}
+use Rattle.script_tree.specs.declared.thing.Sort.TheVariants as sort
 use Rattle.script_tree.specs.Names.{Named}
-use Rattle.script_tree.specs.Parts.{Part, Shape, words_read, word_read, then_read}
+use Rattle.script_tree.specs.Parts.{Part, number_part, operand_part, comp_part, test_part, name_part, Shape, a_register, a_value, a_number, a_key, a_promise, a_comp, a_test, a_new_name, a_fillable, a_place, words_read, word_read, then_read}
 use Rattle.script_tree.specs.Tree.{Tree}
 use Rattle.script_tree.specs.WellFormed.{PartFits, PartsFit}
-use Rattle.script_tree.proofs.Fitting.{NamesFit, PartIs, again, word_is}
-
--- one part for each shape
-abbrev pub PartsAre : Tree → List Shape → List Part → Type 0
-PartsAre tree [] [] = Unit {0}
-PartsAre tree [] (p ∷ ps) = ⊥
-PartsAre tree (s ∷ ss) [] = ⊥
-PartsAre tree (s ∷ ss) (p ∷ ps) = PartIs tree s p × PartsAre tree ss ps
+use Rattle.script_tree.proofs.Fitting.{NamesFit, word_is}
+use Rattle.script_tree.proofs.Remade.{as_wanted, all_wanted, AreWanted, no_parts, one_more, wanted_same}
 
 more_parts : (tree : Tree) (s : Shape) (ss : List Shape) (x : Result Part Cause) (rest : Result (List Part) Cause) (ps : List Part)
-    → ((q : Part) → x ≡ Ok q → PartIs tree s q) → ((qs : List Part) → rest ≡ Ok qs → PartsAre tree ss qs) → then_read x rest ≡ Ok ps
-    → PartsAre tree (s ∷ ss) ps
+    → ((q : Part) → x ≡ Ok q → PartFits tree s q) → ((qs : List Part) → rest ≡ Ok qs → PartsFit tree ss qs) → then_read x rest ≡ Ok ps
+    → PartsFit tree (s ∷ ss) ps
 more_parts tree s ss (Err c) rest ps f g e = cc
 more_parts tree s ss (Ok q) (Err c) ps f g e = cc
-more_parts tree s ss (Ok q) (Ok qs) ps f g e = let h : (q ∷ qs) ≡ ps = cc in subst (λ rs. PartsAre tree (s ∷ ss) rs) h (f q refl, g qs refl)
+more_parts tree s ss (Ok q) (Ok qs) ps f g e = let h : (q ∷ qs) ≡ ps = cc in subst (λ rs. PartsFit tree (s ∷ ss) rs) h (f q refl, g qs refl)
 
-pub words_are : (tree : Tree) (names : List Named) (ss : List Shape) (words : List (List ℕ)) (ps : List Part) → NamesFit tree names
-    → words_read names ss words ≡ Ok ps → PartsAre tree ss ps
-words_are tree names [] [] ps n e = let h : [] ≡ ps = cc in subst (λ rs. PartsAre tree [] rs) h tt
-words_are tree names [] (w ∷ ws) ps n e = cc
-words_are tree names (s ∷ ss) [] ps n e = cc
-words_are tree names (s ∷ ss) (w ∷ ws) ps n e =
-    more_parts tree s ss (word_read names s w) (words_read names ss ws) ps (λ q h. word_is tree names s w q n h) (λ qs h. words_are tree names ss ws qs n h) e
+words_fit : (tree : Tree) (names : List Named) (ss : List Shape) (words : List (List ℕ)) (ps : List Part) → NamesFit tree names
+    → words_read names ss words ≡ Ok ps → PartsFit tree ss ps
+words_fit tree names [] [] ps n e = let h : [] ≡ ps = cc in subst (λ rs. PartsFit tree [] rs) h tt
+words_fit tree names [] (w ∷ ws) ps n e = cc
+words_fit tree names (s ∷ ss) [] ps n e = cc
+words_fit tree names (s ∷ ss) (w ∷ ws) ps n e =
+    more_parts tree s ss (word_read names s w) (words_read names ss ws) ps (λ q h. word_is tree names s w q n h) (λ qs h. words_fit tree names ss ws qs n h) e
 
--- the parts from a place on, each as the lines that are made of them have it
-abbrev pub rebuilt : ℕ → List Shape → List Part → List Part
-rebuilt i [] ps = []
-rebuilt i (s ∷ ss) ps = again s (part_at ps i) ∷ rebuilt (i + 1) ss ps
+-- a part that fits is of the kind that is wanted
+fit_wanted : (tree : Tree) (s : Shape) (p : Part) → PartFits tree s p → as_wanted s p ≡ p
+fit_wanted tree a_register (number_part n) h = refl
+fit_wanted tree a_value (operand_part o) h = refl
+fit_wanted tree a_number (number_part n) h = refl
+fit_wanted tree a_key (number_part n) h = refl
+fit_wanted tree a_promise (number_part n) h = refl
+fit_wanted tree a_comp (comp_part c) h = refl
+fit_wanted tree a_test (test_part t) h = refl
+fit_wanted tree a_new_name (name_part w) h = refl
+fit_wanted tree a_fillable (number_part n) h = refl
+fit_wanted tree (a_place sort.Text) (number_part n) h = refl
+fit_wanted tree (a_place _) (number_part n) h = refl
+fit_wanted tree _ _ h = absurd h
 
-rebuilt_from : (tree : Tree) (i : ℕ) (ss : List Shape) (all ps : List Part) → ((k : ℕ) → part_at all (i + k) ≡ part_at ps k)
-    → PartsAre tree ss ps → PartsFit tree ss (rebuilt i ss all)
-rebuilt_from tree i [] all [] at f = tt
-rebuilt_from tree i [] all (p ∷ ps) at f = absurd f
-rebuilt_from tree i (s ∷ ss) all [] at f = absurd f
-rebuilt_from tree i (s ∷ ss) all (p ∷ ps) at f =
-    let here : part_at all i ≡ p = ap (λ j. part_at all j) (sym (add-zero i)) ∙ at 0 in
-    let is : again s (part_at all i) ≡ p = ap (λ q. again s q) here ∙ f.0.same in (
-      subst (λ q. PartFits tree s q) (sym is) f.0.fits,
-      rebuilt_from tree (i + 1) ss all ps (λ k. ap (λ j. part_at all j) (let e : (i + 1) + k ≡ i + suc k = omega arith in e) ∙ at (suc k)) f.1,
-    )
+are_wanted : (tree : Tree) (ss : List Shape) (ps : List Part) → PartsFit tree ss ps → AreWanted ss ps
+are_wanted tree [] [] f = no_parts
+are_wanted tree [] (p ∷ ps) f = absurd f
+are_wanted tree (s ∷ ss) [] f = absurd f
+are_wanted tree (s ∷ ss) (p ∷ ps) f = one_more (fit_wanted tree s p f.0) (are_wanted tree ss ps f.1)
 
-pub rebuilt_fits : (tree : Tree) (ss : List Shape) (ps : List Part) → PartsAre tree ss ps → PartsFit tree ss (rebuilt 0 ss ps)
-rebuilt_fits tree ss ps f = rebuilt_from tree 0 ss ps ps (λ k. ap (λ j. part_at ps j) (let e : 0 + k ≡ k = omega arith in e)) f
+-- the parts of the line that is made of what words are read as
+pub made_parts_fit : (tree : Tree) (names : List Named) (ss : List Shape) (words : List (List ℕ)) (ps : List Part) → NamesFit tree names
+    → words_read names ss words ≡ Ok ps → PartsFit tree ss (all_wanted ss 0 ps)
+made_parts_fit tree names ss words ps n e =
+    let f = words_fit tree names ss words ps n e in subst (λ qs. PartsFit tree ss qs) (sym (wanted_same (are_wanted tree ss ps f))) f

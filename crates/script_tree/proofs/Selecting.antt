@@ -1,5 +1,5 @@
 -- A select has no more events than it may have.
-use Rattle.std.proofs.Common.{◌≡◌, ℕ, ◌+◌, ◌<◌, ◌≤◌, Bool, true, false, Some, None, List, [], ◌∷◌, ◌++◌, length, set, slice_get, arith, not-suc-le-zero, refl, sym, subst}
+use Rattle.std.proofs.Common.{◌≡◌, ℕ, ◌+◌, ◌≤◌, Bool, true, false, Some, None, List, [], ◌∷◌, ◌++◌, length, set, slice_get, arith, refl, sym, subst}
 use Rattle.std.proofs.lemmas.Bool.{false≢true, leb-false}
 use Rattle.script_tree.specs.declared.counts.Counts.{Counts}
 use Rattle.script_tree.specs.declared.form.EventForm.{EventForm}
@@ -15,10 +15,12 @@ use Rattle.script_tree.specs.Lines.{kind_made, event_form_made}
 use Rattle.script_tree.specs.Parts.{Part}
 use Rattle.script_tree.specs.Reading.{State, Frame, is_group, holds_statements, holds_events, counted, with_event}
 use Rattle.script_tree.specs.Tree.{Tree}
-use Rattle.script_tree.proofs.Ends.{HasClosed, IsClosed, set_here, groups_are}
 use Rattle.script_tree.proofs.Groups.{open_groups, GroupsDescend, inner_group}
-use Rattle.script_tree.proofs.Moves.{Moves, declares, begins_fiber, begins_main, states, adds_leaf, opens, opens_select, opens_group, begins_else, begins_catch, ends_text, ends_block, ends_select, ends_group, opens_block, IsBlock, a_block, IsSelect, a_select, IsGroup, a_group as a_group_opens, Groups, a_choose, a_wrap, a_guard, Ends, a_text, the_main}
+use Rattle.script_tree.proofs.Moves.{Moves, declares, begins_fiber, begins_main, states, adds_leaf, opens, opens_select, opens_group, begins_else, begins_catch, ends_text, ends_block, ends_select, ends_group, opens_block, IsBlock, a_block, IsSelect, a_select, IsGroup, a_group as a_group_opens, Groups, a_choose, Ends, a_text, the_main}
+use Rattle.script_tree.proofs.Moving.{groups_are}
 use Rattle.script_tree.proofs.Paths.{Descends}
+use Rattle.script_tree.proofs.Settled.{Settles}
+use Rattle.script_tree.proofs.Staying.{closed_in, pushed_in}
 
 -- ---- leaves
 
@@ -93,8 +95,7 @@ select_counted tree s o around (a_select n v f parts p is) = nothing
 
 group_is : (s : State) (o : Opener) → IsGroup s o → is_group o ≡ true
 group_is s o (a_group_opens group_form.Choose parts p) = refl
-group_is s o (a_group_opens group_form.Wrap parts p) = refl
-group_is s o (a_group_opens group_form.Guard parts p) = refl
+group_is s o _ = refl
 
 group_counted : (tree : Tree) (b : Bool) (around : ℕ → Type 0) (n : ℕ) → b ≡ true → around n → CountsIn tree b [] around n
 group_counted tree b around n is c =
@@ -108,25 +109,11 @@ group_events _ h = absurd (false≢true h)
 
 leaf_members : (f : EventForm) (parts : List Part) → members_of (event_form_made f parts) ≡ None
 leaf_members event_form.Ivar parts = refl
-leaf_members event_form.Latch parts = refl
-leaf_members event_form.Stream parts = refl
-leaf_members event_form.Done parts = refl
-leaf_members event_form.Always parts = refl
+leaf_members _ parts = refl
 
 group_members : (members : List ℕ) (o : Opener) (e : EventTree) → Groups members o e → members_of e ≡ Some members
 group_members members o e a_choose = refl
-group_members members o e a_wrap = refl
-group_members members o e a_guard = refl
-
--- places that descend from a bound are all below it
-below : (bound : ℕ) (places : List ℕ) → Descends bound places → IsClosed bound places
-below bound [] d = tt
-below bound (p ∷ ps) d = (λ same. let less = d.0 in let bad : 1 ≤ 0 = omega (arith, same, less) in not-suc-le-zero bad, below_more bound p ps d.0 d.1)
-  where
-    below_more : (bound p : ℕ) (places : List ℕ) → p < bound → Descends p places → IsClosed bound places
-    below_more bound p [] l d = tt
-    below_more bound p (q ∷ qs) l d =
-        (λ same. let less = d.0 in let bad : 1 ≤ 0 = omega (arith, same, less, l) in not-suc-le-zero bad, below_more bound q qs (let less = d.0 in omega (arith, less, l)) d.1)
+group_members members o e _ = refl
 
 same_leaves : (counts : Counts) (k : Kind) → (counted counts k).leaves ≡ counts.leaves
 same_leaves counts kind.Trigger = refl
@@ -138,28 +125,23 @@ leaf_added : (s : State) (tree : Tree) (f : EventForm) (parts : List Part)
     → slice_get tree.events (length s.events) ≡ Some (event_form_made f parts) → HaveLeaves tree (length s.events ∷ []) 1
 leaf_added s tree f parts is = a_leaf (length s.events) (event_form_made f parts) is (leaf_members f parts) nothing
 
-push_here : {A : Type 0} (xs : List A) (x : A) → slice_get (xs ++ x ∷ []) (length xs) ≡ Some x
-push_here [] x = refl
-push_here (y ∷ ys) x = push_here ys x
-
 -- a group of events ends
 group_ended : (s : State) (tree : Tree) (f : Frame) (fs : List Frame) (x : EventTree) → s.outer ≡ f ∷ fs → Groups s.top.events s.top.what x → GroupsDescend s
-    → HasClosed (record s { events = set s.events s.top.place x; top = with_event f s.top.place; outer = fs }) tree → LeavesCounted s tree
+    → Settles (record s { events = set s.events s.top.place x; top = with_event f s.top.place; outer = fs }) tree → LeavesCounted s tree
     → LeavesIn tree (with_event f s.top.place ∷ fs) s.counts.leaves
 group_ended s tree f fs x e groups d k c =
     let is = groups_are s.top.events s.top.what x groups in
     let g : GroupCounts tree s.top.events (LeavesIn tree s.outer) s.counts.leaves =
     subst (λ b. CountsIn tree b s.top.events (LeavesIn tree s.outer) s.counts.leaves) is (c.all (group_events s.top.what is)) in
     let i = inner_group (length s.events) s.top s.outer is d in
-    let apart = below s.top.place (open_groups (f ∷ fs)) (subst (λ gs. Descends s.top.place (open_groups gs)) e i.1) in
-    let there = k.closed s.top.place x (set_here s.events s.top.place x i.0) apart in
+    let there = closed_in s.events s.top.place x (open_groups (f ∷ fs)) tree.events i.0 (subst (λ gs. Descends s.top.place (open_groups gs)) e i.1) k.events in
     let own = same_count tree (s.top.place ∷ []) (g.own + 0) g.own (omega arith)
     (a_group s.top.place x there (group_members s.top.events s.top.what x groups) g.leaves nothing) in
     let sum = g.sum in
     subst (λ n. LeavesIn tree (with_event f s.top.place ∷ fs) n) (let q : g.rest + g.own ≡ s.counts.leaves = omega (arith, sum) in q)
     (event_counted tree f fs g.rest s.top.place g.own (subst (λ gs. LeavesIn tree gs g.rest) e g.others) own)
 
-pub moves_leaves : (s : State) {t : State} (tree : Tree) → Moves s t → GroupsDescend s → HasClosed t tree → LeavesCounted s tree → LeavesCounted t tree
+pub moves_leaves : (s : State) {t : State} (tree : Tree) → Moves s t → GroupsDescend s → Settles t tree → LeavesCounted s tree → LeavesCounted t tree
 moves_leaves s tree (declares f parts p h full) d k c = record {
   all = λ ev. subst (λ n. LeavesIn tree (s.top ∷ s.outer) n) (sym (same_leaves s.counts (kind_made f parts))) (c.all ev);
   few = rw (same_leaves s.counts (kind_made f parts)) c.few;
@@ -171,8 +153,7 @@ moves_leaves s tree (adds_leaf f parts p h few) d k c =
     let l = leb-false 32 s.counts.leaves few in
     record {
       all = λ ev. event_counted tree s.top s.outer s.counts.leaves (length s.events) 1 (c.all h)
-          (leaf_added s tree f parts
-          (k.closed (length s.events) (event_form_made f parts) (push_here s.events (event_form_made f parts)) (below (length s.events) (open_groups (s.top ∷ s.outer)) d)));
+          (leaf_added s tree f parts (pushed_in s.events (event_form_made f parts) (open_groups (s.top ∷ s.outer)) tree.events d k.events));
       few = omega (arith, l);
     }
 moves_leaves s tree (opens o p h full deep) d k c = record { all = λ ev. absurd (opened_no_events s o p ev); few = c.few }

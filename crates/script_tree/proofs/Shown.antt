@@ -8,7 +8,7 @@ use Rattle.script_tree.specs.Reading.{State, after, limit_broken}
 use Rattle.script_tree.specs.Tree.{Tree}
 use Rattle.script_tree.proofs.Allowed.{May, opens_within}
 use Rattle.script_tree.proofs.Endings.{ending_goes, else_goes, catch_goes}
-use Rattle.script_tree.proofs.OpenGroups.{GroupsDescend}
+use Rattle.script_tree.proofs.Groups.{GroupsDescend}
 use Rattle.script_tree.proofs.Openings.{plain_goes, leaf_goes, declaration_goes, fiber_goes, main_goes, opening_goes}
 use Rattle.script_tree.proofs.Paths.{BlocksDescend, ends_bare_else}
 use Rattle.script_tree.proofs.Settled.{Settles}

@@ -73,11 +73,9 @@ declared_word d = ap decl_name d.at ∙ d.name_is
 
 comp_spelled : (tree : Tree) (word : List ℕ) → IsWord word → (o : Option Thing) → ((t : Thing) → o ≡ Some t → AgreesOn tree word t)
     → (part : Part) → Reads (comp_named o) part → Spelled tree a_comp word part
-comp_spelled tree word w None a part h = absurd h
 comp_spelled tree word w (Some thing.Root) a part h = such h refl (sym (a thing.Root refl)) w
-comp_spelled tree word w (Some thing.Main) a part h = absurd h
 comp_spelled tree word w (Some (thing.Named sort.Comp place)) a part h = such h refl (declared_word (a (thing.Named sort.Comp place) refl)) w
-comp_spelled tree word w (Some (thing.Named _ place)) a part h = absurd h
+comp_spelled tree word w _ a part h = absurd h
 
 -- the sort with a number
 sort_at : ℕ → Sort
@@ -90,7 +88,7 @@ unfolding sort_at
 sort_back sort.Trigger = refl
 sort_back _ = refl
 
-sorts_same : (s t : Sort) → sort_number s ≡ sort_number t → s ≡ t
+pub sorts_same : (s t : Sort) → sort_number s ≡ sort_number t → s ≡ t
 sorts_same s t h = sym (sort_back s) ∙ (ap sort_at h ∙ sort_back t)
 
 place_word : (tree : Tree) (word : List ℕ) (s : Sort) (place : ℕ) → AgreesOn tree word (thing.Named s place) → number_word tree (a_place s) place ≡ word
@@ -107,19 +105,14 @@ place_kept tree word w s t place a false e part h = absurd h
 
 place_spelled : (tree : Tree) (word : List ℕ) → IsWord word → (s : Sort) (o : Option Thing) → ((t : Thing) → o ≡ Some t → AgreesOn tree word t)
     → (part : Part) → Reads (place_named (λ t. t == sort_number s) o) part → Spelled tree (a_place s) word part
-place_spelled tree word w s None a part h = absurd h
-place_spelled tree word w s (Some thing.Root) a part h = absurd h
-place_spelled tree word w s (Some thing.Main) a part h = absurd h
 place_spelled tree word w s (Some (thing.Named t place)) a part h = place_kept tree word w s t place (a (thing.Named t place) refl) (sort_number t == sort_number s) refl part h
+place_spelled tree word w s _ a part h = absurd h
 
 fillable_spelled : (tree : Tree) (word : List ℕ) → IsWord word → (o : Option Thing) → ((t : Thing) → o ≡ Some t → AgreesOn tree word t)
     → (part : Part) → Reads (place_named (λ s. (s == 6) || (s == 7)) o) part → Spelled tree a_fillable word part
-fillable_spelled tree word w None a part h = absurd h
-fillable_spelled tree word w (Some thing.Root) a part h = absurd h
-fillable_spelled tree word w (Some thing.Main) a part h = absurd h
 fillable_spelled tree word w (Some (thing.Named sort.Ivar place)) a part h = such h refl (declared_word (a (thing.Named sort.Ivar place) refl)) w
 fillable_spelled tree word w (Some (thing.Named sort.Stream place)) a part h = such h refl (declared_word (a (thing.Named sort.Stream place) refl)) w
-fillable_spelled tree word w (Some (thing.Named _ place)) a part h = absurd h
+fillable_spelled tree word w _ a part h = absurd h
 
 new_spelled : (tree : Tree) (word : List ℕ) → IsWord word → (o : Option Thing) (part : Part) → Reads (new_name word o) part → Spelled tree a_new_name word part
 new_spelled tree word w None part h = such h refl refl w
@@ -150,26 +143,18 @@ test_spelled tree word =
 class_spelled : (tree : Tree) (word : List ℕ) (names : List Named) → AllByRecursion (Agrees tree) names → (shape : Shape) (c : Class) → IsClassed word c → (part : Part)
     → Reads (class_read names shape word c) part → Spelled tree shape word part
 class_spelled tree word names a a_register (class_is.Register r) k part h = such h refl k.is k.is_word
-class_spelled tree word names a a_register _ k part h = absurd h
 class_spelled tree word names a a_value (class_is.Register r) k part h = such h refl k.is k.is_word
 class_spelled tree word names a a_value (class_is.Number n) k part h = such h refl k.is k.is_word
-class_spelled tree word names a a_value _ k part h = absurd h
 class_spelled tree word names a a_number (class_is.Number n) k part h = such h refl k.is k.is_word
-class_spelled tree word names a a_number _ k part h = absurd h
 class_spelled tree word names a a_key (class_is.Number n) k part h = key_spelled tree word k.is_word n k.is (nat_lt n 16) part h
-class_spelled tree word names a a_key _ k part h = absurd h
 class_spelled tree word names a a_promise (class_is.Promise p) k part h = such h refl k.is k.is_word
-class_spelled tree word names a a_promise _ k part h = absurd h
 class_spelled tree word names a a_comp (class_is.Promise p) k part h = such h refl k.is k.is_word
 class_spelled tree word names a a_comp class_is.Name k part h = comp_spelled tree word k (thing_of names word) (λ t. found tree names word t a) part h
-class_spelled tree word names a a_comp _ k part h = absurd h
 class_spelled tree word names a a_test c k part h = test_spelled tree word part h
 class_spelled tree word names a a_new_name class_is.Name k part h = new_spelled tree word k (thing_of names word) part h
-class_spelled tree word names a a_new_name _ k part h = absurd h
 class_spelled tree word names a a_fillable class_is.Name k part h = fillable_spelled tree word k (thing_of names word) (λ t. found tree names word t a) part h
-class_spelled tree word names a a_fillable _ k part h = absurd h
 class_spelled tree word names a (a_place s) class_is.Name k part h = place_spelled tree word k s (thing_of names word) (λ t. found tree names word t a) part h
-class_spelled tree word names a (a_place s) _ k part h = absurd h
+class_spelled tree word names a _ _ k part h = absurd h
 
 -- what a word was read as is spelled as that word
 pub word_spelled : (tree : Tree) (names : List Named) → AllByRecursion (Agrees tree) names → (shape : Shape) (word : List ℕ) (part : Part)

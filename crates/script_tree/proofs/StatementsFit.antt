@@ -27,68 +27,31 @@ use Rattle.script_tree.specs.WellFormed.{PartsFit, StmtFits, OpenerFits, EventFi
 use Rattle.script_tree.proofs.Fitting.{NamesFit}
 use Rattle.script_tree.proofs.Moves.{IsStated, basic, on_comps, on_objects, on_fibers, IsBlock, a_block, IsSelect, a_select, IsGroup, a_group}
 use Rattle.script_tree.proofs.Readings.{ArePartsOf}
-use Rattle.script_tree.proofs.Rebuilding.{rebuilt, words_are, rebuilt_fits}
+use Rattle.script_tree.proofs.Rebuilding.{made_parts_fit}
+use Rattle.script_tree.proofs.Remade.{all_wanted}
 
 -- the parts fit the form, as the line that is made of them has them
 abbrev pub AreFor : Tree → Form → List Part → Type 0
-AreFor tree f parts = PartsFit tree (shapes f) (rebuilt 0 (shapes f) parts)
+AreFor tree f parts = PartsFit tree (shapes f) (all_wanted (shapes f) 0 parts)
 
 pub are_for : (s : State) (tree : Tree) (f : Form) (parts : List Part) → NamesFit tree s.names → ArePartsOf s f parts → AreFor tree f parts
-are_for s tree f parts n p = rebuilt_fits tree (shapes f) parts (words_are tree s.names (shapes f) p.words parts n p.read)
+are_for s tree f parts n p = made_parts_fit tree s.names (shapes f) p.words parts n p.read
 
 basic_fits : (tree : Tree) (holder : ℕ) (f : BasicForm) (parts : List Part) → AreFor tree (form.Basic f) parts → StmtFits tree holder (basic_form_made f parts)
 basic_fits tree holder basic_form.Set parts r = r
-basic_fits tree holder basic_form.Add parts r = r
-basic_fits tree holder basic_form.Sub parts r = r
-basic_fits tree holder basic_form.Mul parts r = r
-basic_fits tree holder basic_form.Words parts r = r
-basic_fits tree holder basic_form.Len parts r = r
-basic_fits tree holder basic_form.Put parts r = r
-basic_fits tree holder basic_form.Get parts r = r
-basic_fits tree holder basic_form.Say parts r = r
-basic_fits tree holder basic_form.Raise parts r = r
-basic_fits tree holder basic_form.Break parts r = r
-basic_fits tree holder basic_form.Yield parts r = r
-basic_fits tree holder basic_form.Check parts r = r
+basic_fits tree holder _ parts r = r
 
 comp_fits : (tree : Tree) (holder : ℕ) (f : CompForm) (parts : List Part) → AreFor tree (form.Comp f) parts → StmtFits tree holder (comp_form_made f parts)
 comp_fits tree holder comp_form.Signal parts r = r
-comp_fits tree holder comp_form.Await parts r = r
-comp_fits tree holder comp_form.Attach parts r = r
-comp_fits tree holder comp_form.Detach parts r = r
-comp_fits tree holder comp_form.Return parts r = r
-comp_fits tree holder comp_form.Cancel parts r = r
-comp_fits tree holder comp_form.Peek parts r = r
-comp_fits tree holder comp_form.Wait parts r = r
-comp_fits tree holder comp_form.After parts r = r
+comp_fits tree holder _ parts r = r
 
 object_fits : (tree : Tree) (holder : ℕ) (f : ObjectForm) (parts : List Part) → AreFor tree (form.Object f) parts → StmtFits tree holder (object_form_made f parts)
 object_fits tree holder object_form.Lock parts r = r
-object_fits tree holder object_form.TryLock parts r = r
-object_fits tree holder object_form.Unlock parts r = r
-object_fits tree holder object_form.WaitCond parts r = r
-object_fits tree holder object_form.Notify parts r = r
-object_fits tree holder object_form.Broadcast parts r = r
-object_fits tree holder object_form.Acquire parts r = r
-object_fits tree holder object_form.TryAcquire parts r = r
-object_fits tree holder object_form.Release parts r = r
-object_fits tree holder object_form.Decr parts r = r
-object_fits tree holder object_form.Incr parts r = r
-object_fits tree holder object_form.AwaitLatch parts r = r
-object_fits tree holder object_form.Fill parts r = r
-object_fits tree holder object_form.Poison parts r = r
-object_fits tree holder object_form.Read parts r = r
-object_fits tree holder object_form.Push parts r = r
-object_fits tree holder object_form.Tap parts r = r
-object_fits tree holder object_form.Next parts r = r
-object_fits tree holder object_form.Line parts r = r
+object_fits tree holder _ parts r = r
 
 fiber_fits : (tree : Tree) (holder : ℕ) (f : FiberForm) (parts : List Part) → AreFor tree (form.Fork f) parts → StmtFits tree holder (fiber_form_made f parts)
 fiber_fits tree holder fiber_form.Spawn parts r = r
-fiber_fits tree holder fiber_form.Fork parts r = r
-fiber_fits tree holder fiber_form.Promise parts r = r
-fiber_fits tree holder fiber_form.Terminate parts r = r
-fiber_fits tree holder fiber_form.Error parts r = r
+fiber_fits tree holder _ parts r = r
 
 -- a statement that is a line of its own fits
 pub stated_fits : (s : State) (tree : Tree) (holder : ℕ) (x : Stmt) → NamesFit tree s.names → IsStated s x → StmtFits tree holder x
@@ -99,16 +62,7 @@ stated_fits s tree holder x n (on_fibers f parts p) = fiber_fits tree holder f p
 
 block_fits : (tree : Tree) (f : BlockForm) (parts : List Part) → AreFor tree (form.Block f) parts → OpenerFits tree (block_form_made f parts)
 block_fits tree block_form.If parts r = r
-block_fits tree block_form.Loop parts r = r
-block_fits tree block_form.Try parts r = r
-block_fits tree block_form.Forbid parts r = r
-block_fits tree block_form.Permit parts r = r
-block_fits tree block_form.Under parts r = r
-block_fits tree block_form.Link parts r = r
-block_fits tree block_form.Protect parts r = r
-block_fits tree block_form.Bundle parts r = r
-block_fits tree block_form.Flock parts r = r
-block_fits tree block_form.Select parts r = r
+block_fits tree _ parts r = r
 
 -- the parts of a block that a line opens fit
 pub opened_fits : (s : State) (tree : Tree) (o : Opener) → NamesFit tree s.names → IsBlock s o → OpenerFits tree o
@@ -120,8 +74,7 @@ select_fits s tree o n (a_select number value f parts p is) =
 
 group_parts_fit : (tree : Tree) (f : GroupForm) (parts : List Part) → AreFor tree (form.Group f) parts → OpenerFits tree (group_form_made f parts)
 group_parts_fit tree group_form.Choose parts r = r
-group_parts_fit tree group_form.Wrap parts r = r
-group_parts_fit tree group_form.Guard parts r = r
+group_parts_fit tree _ parts r = r
 
 pub group_fits : (s : State) (tree : Tree) (o : Opener) → NamesFit tree s.names → IsGroup s o → OpenerFits tree o
 group_fits s tree o n (a_group f parts p) = group_parts_fit tree f parts (are_for s tree (form.Group f) parts n p)
@@ -129,10 +82,7 @@ group_fits s tree o n (a_group f parts p) = group_parts_fit tree f parts (are_fo
 event_fits : (tree : Tree) (place : ℕ) (f : EventForm) (parts : List Part) → AreFor tree (form.Event f) parts
     → EventFits tree place (event_form_made f parts)
 event_fits tree place event_form.Ivar parts r = r
-event_fits tree place event_form.Latch parts r = r
-event_fits tree place event_form.Stream parts r = r
-event_fits tree place event_form.Done parts r = r
-event_fits tree place event_form.Always parts r = r
+event_fits tree place _ parts r = r
 
 -- an event alone fits
 pub leaf_fits : (s : State) (tree : Tree) (place : ℕ) (f : EventForm) (parts : List Part) → NamesFit tree s.names

@@ -1,8 +1,10 @@
 -- A script has no more statements than it may have.
-use Rattle.std.proofs.Common.{◌≡◌, ℕ, zero, suc, ◌+◌, ◌≤◌, ◌∙◌, true, false, nat_le, List, [], ◌∷◌, ◌++◌, length, set, flat_map, arith, length-append, refl, ap}
-use Rattle.std.proofs.lemmas.Bool.{false≢true, leb-false}
+use Rattle.std.proofs.Common.{◌≡◌, ℕ, zero, suc, ◌+◌, ◌≤◌, ◌∙◌, false, nat_le, List, [], ◌∷◌, ◌++◌, length, set, flat_map, arith, length-append, refl, ap}
+use Rattle.std.proofs.lemmas.Bool.{leb-false}
 use Rattle.std.proofs.lemmas.Grind.{flat_map-append}
 use Rattle.script_tree.specs.declared.counts.Counts.{Counts}
+use Rattle.script_tree.specs.declared.form.BlockForm.{BlockForm}
+use Rattle.script_tree.specs.declared.form.BlockForm.TheVariants as block_form
 use Rattle.script_tree.specs.declared.form.GroupForm.TheVariants as group_form
 use Rattle.script_tree.specs.declared.opener.Opener.{Opener}
 use Rattle.script_tree.specs.declared.opener.Opener.TheVariants as opener
@@ -10,9 +12,10 @@ use Rattle.script_tree.specs.declared.program.Kind.{Kind}
 use Rattle.script_tree.specs.declared.program.Kind.TheVariants as kind
 use Rattle.script_tree.specs.declared.program.Stmt.{Stmt}
 use Rattle.script_tree.specs.declared.program.Stmt.TheVariants as stmt
-use Rattle.script_tree.specs.Lines.{number_in, part_at, kind_made}
+use Rattle.script_tree.specs.Lines.{number_in, part_at, kind_made, block_form_made}
+use Rattle.script_tree.specs.Parts.{Part}
 use Rattle.script_tree.specs.Reading.{State, Frame, frame, inside, part_begun, counted}
-use Rattle.script_tree.proofs.Moves.{Moves, declares, begins_fiber, begins_main, states, adds_leaf, opens, opens_select, opens_group, begins_else, begins_catch, ends_text, ends_block, ends_select, ends_group, opens_block, IsBlock, a_block, IsSelect, a_select, IsGroup, a_group, Becomes, a_then, an_else, a_loop, a_handler, a_forbid, a_permit, an_under, a_link, a_protect, a_bundle, a_flock, Ends, a_text, the_main}
+use Rattle.script_tree.proofs.Moves.{Moves, declares, begins_fiber, begins_main, states, adds_leaf, opens, opens_select, opens_group, begins_else, begins_catch, ends_text, ends_block, ends_select, ends_group, IsBlock, a_block, IsSelect, a_select, IsGroup, a_group, Becomes, a_then, Ends, a_text, the_main}
 
 -- a block or select that is open is a statement when it ends
 abbrev pub becomes_one : Opener → ℕ
@@ -55,40 +58,23 @@ filled_count (b ∷ bs) (suc place) xs =
     let rest = filled_count bs place xs in
     omega (arith, old, new, rest)
 
-block_opens : (o : Opener) → opens_block o ≡ true → becomes_one o ≡ 1
-block_opens opener.Head h = absurd (false≢true h)
-block_opens opener.Between h = absurd (false≢true h)
-block_opens opener.Over h = absurd (false≢true h)
-block_opens opener.Text h = absurd (false≢true h)
-block_opens opener.Main h = absurd (false≢true h)
-block_opens opener.Choose h = absurd (false≢true h)
-block_opens (opener.Wrap o) h = absurd (false≢true h)
-block_opens (opener.Guard l t r) h = absurd (false≢true h)
-block_opens _ h = refl
+block_form_becomes : (f : BlockForm) (parts : List Part) → becomes_one (block_form_made f parts) ≡ 1
+block_form_becomes block_form.If parts = refl
+block_form_becomes _ parts = refl
 
 block_becomes : (s : State) (o : Opener) → IsBlock s o → becomes_one o ≡ 1
-block_becomes s o (a_block f parts p is) = block_opens o is
+block_becomes s o (a_block f parts p is) = block_form_becomes f parts
 
 select_becomes : (s : State) (o : Opener) → IsSelect s o → becomes_one o ≡ 1
 select_becomes s o (a_select n v f parts p is) = refl
 
 group_becomes : (s : State) (o : Opener) → IsGroup s o → becomes_one o ≡ 0
 group_becomes s o (a_group group_form.Choose parts p) = refl
-group_becomes s o (a_group group_form.Wrap parts p) = refl
-group_becomes s o (a_group group_form.Guard parts p) = refl
+group_becomes s o _ = refl
 
 becomes_it : (place : ℕ) (o : Opener) (x : Stmt) → Becomes place o x → becomes_one o ≡ 1
 becomes_it place o x a_then = refl
-becomes_it place o x an_else = refl
-becomes_it place o x a_loop = refl
-becomes_it place o x a_handler = refl
-becomes_it place o x a_forbid = refl
-becomes_it place o x a_permit = refl
-becomes_it place o x an_under = refl
-becomes_it place o x a_link = refl
-becomes_it place o x a_protect = refl
-becomes_it place o x a_bundle = refl
-becomes_it place o x a_flock = refl
+becomes_it place o x _ = refl
 
 behind_becomes : (o behind : Opener) → Ends o behind → becomes_one behind ≡ 0
 behind_becomes o behind a_text = refl

@@ -1,6 +1,5 @@
 -- Elements of a list stay where they are while others are set and added, but for those at open places.
 use Rattle.std.proofs.Common.{◌≡◌, ◌≢◌, ℕ, zero, suc, ◌<◌, ◌≤◌, Bool, true, false, cond, Some, List, [], ◌∷◌, ◌++◌, length, set, slice_get, refl, ap, ◌∙◌, arith, length-append, length-set}
-use Rattle.script_tree.proofs.Descending.{descends_up}
 use Rattle.script_tree.proofs.Paths.{Descends}
 
 -- ---- places
@@ -13,11 +12,6 @@ IsNoneOf p (q ∷ qs) = (p ≢ q) × IsNoneOf p qs
 pub behind_all : (bound p : ℕ) (places : List ℕ) → Descends bound places → bound ≤ p → IsNoneOf p places
 behind_all bound p [] d h = tt
 behind_all bound p (q ∷ qs) d h = (λ e. omega (arith, e, d.0, h), behind_all q p qs d.1 (omega (arith, d.0, h)))
-
--- without the first place
-pub descends_less : (b : Bool) (bound p : ℕ) (places : List ℕ) → Descends bound (cond b (p ∷ places) places) → Descends bound places
-descends_less true bound p places d = descends_up p bound places (omega (arith, d.0)) d.1
-descends_less false bound p places d = d
 
 -- the first place and the others
 pub descends_first : (b : Bool) (bound p : ℕ) (places : List ℕ) → b ≡ true → Descends bound (cond b (p ∷ places) places) → (p < bound) × Descends p places

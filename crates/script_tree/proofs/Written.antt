@@ -12,11 +12,13 @@ use Rattle.script_tree.proofs.Allowed.{read_may}
 use Rattle.script_tree.proofs.Descending.{blocks_descend}
 use Rattle.script_tree.proofs.Each.{each-append}
 use Rattle.script_tree.proofs.Knowing.{extends_before}
-use Rattle.script_tree.proofs.OpenGroups.{groups_descend}
+use Rattle.script_tree.proofs.Groups.{groups_descend}
+use Rattle.script_tree.proofs.Moving.{moves}
+use Rattle.script_tree.proofs.Pathways.{path_nested}
 use Rattle.script_tree.proofs.Paths.{Path, begin, more, Extends, AreWords, form_words, line_words}
 use Rattle.script_tree.proofs.Placed.{Placed, placed_text, IsPlaced, placed_line}
 use Rattle.script_tree.proofs.Said.{said}
-use Rattle.script_tree.proofs.Settled.{Settles, after_keeps, settled_before}
+use Rattle.script_tree.proofs.Settled.{Settles, moves_keep, settled_before}
 use Rattle.script_tree.proofs.Shown.{line_goes}
 use Rattle.script_tree.proofs.Standing.{Stands, in_file, Goes, flat_map_push}
 
@@ -57,10 +59,11 @@ path_written tree s lines begin settle extends = record { placed = []; each = tt
 path_written tree s lines (more {s = before} {lines = front} {words = words} l path takes some) settle extends =
     let may = read_may before words l takes.read in
     let here : Settles (after before l) tree = subst (λ u. Settles u tree) takes.is settle in
-    let wide : Extends before tree = extends_before takes extends in
-    let w = path_written tree before front path (settled_before before (after before l) tree (after_keeps before l may some) here) wide in
+    let m = moves before s words l takes some (path_nested before front path) in
+    let wide : Extends before tree = extends_before before m extends in
+    let w = path_written tree before front path (settled_before before s tree (moves_keep before m) settle) wide in
     let what = said path takes tree wide in
     let formed = has_form tree l (line_form l) words refl what.0 what.1.some in
     subst (λ u. IsWritten tree u (front ++ words ∷ [])) (sym takes.is)
     (writes tree before (after before l) front l words formed.form formed.is what.0 what.1 w
-    (line_goes tree before l (flat_map placed_text w.placed) formed.form formed.is may takes.within some (blocks_descend path) (groups_descend before front path) here w.stands))
+    (line_goes tree before l (flat_map placed_text w.placed) formed.form formed.is may takes.within some (blocks_descend path) (groups_descend path) here w.stands))

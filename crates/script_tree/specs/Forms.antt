@@ -1,5 +1,5 @@
 -- The line forms: how each is told, and what it wants behind that word.
-use Rattle.std.specs.Prelude.{ℕ, Option, Some, None, List, [], ◌∷◌, codes, bytes_eq, if◌then◌else◌}
+use Rattle.std.specs.Prelude.{ℕ, Option, Some, None, List, [], ◌∷◌, ◌++◌, map, codes, bytes_eq, if◌then◌else◌}
 use Rattle.script_tree.specs.declared.form.Form.{Form}
 use Rattle.script_tree.specs.declared.form.Form.TheVariants as form
 use Rattle.script_tree.specs.declared.form.DeclForm.{DeclForm}
@@ -18,7 +18,6 @@ use Rattle.script_tree.specs.declared.form.EventForm.{EventForm}
 use Rattle.script_tree.specs.declared.form.EventForm.TheVariants as event_form
 use Rattle.script_tree.specs.declared.form.GroupForm.{GroupForm}
 use Rattle.script_tree.specs.declared.form.GroupForm.TheVariants as group_form
-use Rattle.script_tree.specs.declared.form.TheConstants.{FORMS, EVENTS}
 use Rattle.script_tree.specs.declared.thing.Sort.TheVariants as sort
 use Rattle.script_tree.specs.Parts.{Shape, a_register, a_value, a_number, a_key, a_promise, a_comp, a_test, a_new_name, a_fillable, a_place}
 
@@ -232,6 +231,60 @@ shapes (form.Block f) = block_form_shapes f
 shapes (form.Event f) = event_form_shapes f
 shapes (form.Group f) = group_form_shapes f
 
+-- ---- which forms there are
+
+abbrev pub decl_forms : List DeclForm
+decl_forms =
+    decl_form.Trigger ∷ decl_form.Comp ∷ decl_form.Mutex ∷ decl_form.Cond ∷ decl_form.Sem ∷
+    decl_form.Latch ∷ decl_form.Ivar ∷ decl_form.Stream ∷ []
+
+abbrev pub basic_forms : List BasicForm
+basic_forms =
+    basic_form.Set ∷ basic_form.Add ∷ basic_form.Sub ∷ basic_form.Mul ∷ basic_form.Words ∷ basic_form.Len ∷
+    basic_form.Put ∷ basic_form.Get ∷ basic_form.Say ∷ basic_form.Raise ∷ basic_form.Break ∷
+    basic_form.Yield ∷ basic_form.Check ∷ []
+
+abbrev pub comp_forms : List CompForm
+comp_forms =
+    comp_form.Signal ∷ comp_form.Await ∷ comp_form.Attach ∷ comp_form.Detach ∷ comp_form.Return ∷
+    comp_form.Cancel ∷ comp_form.Peek ∷ comp_form.Wait ∷ comp_form.After ∷ []
+
+abbrev pub object_forms : List ObjectForm
+object_forms =
+    object_form.Lock ∷ object_form.TryLock ∷ object_form.Unlock ∷ object_form.WaitCond ∷
+    object_form.Notify ∷ object_form.Broadcast ∷ object_form.Acquire ∷ object_form.TryAcquire ∷
+    object_form.Release ∷ object_form.Decr ∷ object_form.Incr ∷ object_form.AwaitLatch ∷ object_form.Fill ∷
+    object_form.Poison ∷ object_form.Read ∷ object_form.Push ∷ object_form.Tap ∷ object_form.Next ∷
+    object_form.Line ∷ []
+
+abbrev pub fiber_forms : List FiberForm
+fiber_forms = fiber_form.Spawn ∷ fiber_form.Fork ∷ fiber_form.Promise ∷ fiber_form.Terminate ∷ fiber_form.Error ∷ []
+
+abbrev pub block_forms : List BlockForm
+block_forms =
+    block_form.If ∷ block_form.Loop ∷ block_form.Try ∷ block_form.Forbid ∷ block_form.Permit ∷
+    block_form.Under ∷ block_form.Link ∷ block_form.Protect ∷ block_form.Bundle ∷ block_form.Flock ∷
+    block_form.Select ∷ []
+
+abbrev pub group_forms : List GroupForm
+group_forms = group_form.Choose ∷ group_form.Wrap ∷ group_form.Guard ∷ []
+
+abbrev pub event_forms : List EventForm
+event_forms = event_form.Ivar ∷ event_form.Latch ∷ event_form.Stream ∷ event_form.Done ∷ event_form.Always ∷ []
+
+-- the forms that the first word of a line tells
+abbrev pub line_forms : List Form
+line_forms =
+    map form.Declare decl_forms ++ (form.Fiber ∷ form.Main ∷ form.End ∷ form.Else ∷ form.Catch ∷ [])
+    ++ map form.Basic basic_forms ++ map form.Comp comp_forms ++ map form.Object object_forms ++ map form.Fork fiber_forms
+    ++ map form.Block block_forms ++ map form.Group group_forms
+
+-- the forms that the word behind `on` tells
+abbrev pub on_forms : List Form
+on_forms = map form.Event event_forms
+
+-- ---- how they are told
+
 -- the first of some forms that a word tells
 abbrev pub first_form : List Form → List ℕ → Option Form
 first_form [] word = None
@@ -249,9 +302,9 @@ seen (Some f) rest = Some (record { form = f; rest = rest })
 -- the event that the words behind `on` tell
 abbrev pub event_of : List (List ℕ) → Option Seen
 event_of [] = None
-event_of (w ∷ ws) = seen (first_form EVENTS w) ws
+event_of (w ∷ ws) = seen (first_form on_forms w) ws
 
 -- the form that the words of a line tell
 abbrev pub form_of : List (List ℕ) → Option Seen
 form_of [] = None
-form_of (w ∷ ws) = if bytes_eq w (codes "on") then event_of ws else seen (first_form FORMS w) ws
+form_of (w ∷ ws) = if bytes_eq w (codes "on") then event_of ws else seen (first_form line_forms w) ws

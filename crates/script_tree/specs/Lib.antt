@@ -13,6 +13,7 @@ pub mod Reading
 pub mod Slices
 pub mod Spelling
 pub mod Stand
+pub mod Told
 pub mod Tree
 pub mod WellFormed
 pub mod Within

@@ -265,7 +265,7 @@ stmt_parts stmt.Terminate = []
 stmt_parts (stmt.Error a) = operand_part a ∷ []
 stmt_parts _ = []
 
--- the form of a opener, and its parts
+-- the form of an opener, and its parts
 abbrev pub opener_form : Opener → Option Form
 opener_form (opener.Then a b c) = Some (form.Block block_form.If)
 opener_form opener.Loop = Some (form.Block block_form.Loop)
@@ -300,7 +300,7 @@ opener_parts (opener.Wrap a) = operand_part a ∷ []
 opener_parts (opener.Guard a b c) = operand_part a ∷ (test_part b ∷ (operand_part c ∷ []))
 opener_parts _ = []
 
--- the form of a event, and its parts
+-- the form of an event, and its parts
 abbrev pub tree_form : EventTree → Option Form
 tree_form (event.OnIvar a) = Some (form.Event event_form.Ivar)
 tree_form (event.OnLatch a) = Some (form.Event event_form.Latch)

@@ -1,11 +1,12 @@
 -- How the reader's own state is seen, and what a line needs to be taken.
-use Rattle.std.specs.Prelude.{◌≡◌, ℕ, ◌<◌, None, Result, Err, List, map, reverse, length}
+use Rattle.std.specs.Prelude.{◌≡◌, ℕ, ◌<◌, Option, Some, None, Result, Ok, Err, MatchResult, List, map, reverse, length}
 use Rattle.script_tree.specs.declared.cause.Cause.{Cause}
 use Rattle.script_text.specs.declared.token.TokenRefusal.{TokenRefusal}
 use Rattle.script_text.specs.declared.token.TokenRefusal.TheVariants as token_refusal
 use Rattle.script_tree.specs.declared.cause.Cause.TheVariants as cause
 use Rattle.script_tree.specs.declared.fault.Fault.{Fault}
 use Rattle.script_tree.specs.declared.fault.Fault.TheVariants as fault
+use Rattle.script_tree.specs.declared.form.Form.{Form}
 use Rattle.script_tree.specs.declared.line.Line.{Line}
 use Rattle.script_tree.specs.declared.line.Line.TheVariants as line
 use Rattle.script_tree.specs.declared.open.Open.{Open}
@@ -13,8 +14,10 @@ use Rattle.script_tree.specs.declared.reading.Parts.{Parts}
 use Rattle.script_tree.specs.declared.reading.Reading.{Reading}
 use Rattle.script_tree.specs.declared.refusal.ParseRefusal.{ParseRefusal}
 use Rattle.script_tree.specs.declared.refusal.ParseRefusal.TheVariants as parse_refusal
+use Rattle.script_tree.specs.Forms.{shapes}
 use Rattle.script_tree.specs.Grammar.{refused}
 use Rattle.script_tree.specs.Names.{Named, thing_of}
+use Rattle.script_tree.specs.Parts.{Part, words_read}
 use Rattle.script_tree.specs.Reading.{Frame, State}
 use Rattle.script_tree.specs.Tree.{Tree}
 
@@ -45,6 +48,11 @@ pub record IsSmall (s : State) : Type 0 where
   pub texts : length s.texts < 4294967295
   pub blocks : length s.blocks < 4294967295
   pub events : length s.events < 4294967295
+
+-- what was made of a form's words has that form and the parts that they are, or the first wrong word is told
+abbrev pub IsRead : {A : Type 0} → (A → Option Form) → (A → List Part) → Form → List Named → List (List ℕ) → Result A Cause → Type 0
+IsRead form_in parts_in form names words result =
+    MatchResult result (λ x. (words_read names (shapes form) words ≡ Ok (parts_in x)) × (form_in x ≡ Some form)) (λ c. words_read names (shapes form) words ≡ Err c)
 
 -- a name that a line makes known isn't taken
 abbrev pub IsFree : List Named → Line → Type 0

@@ -25,7 +25,8 @@ use Rattle.script_tree.specs.Lines.{stmt_form, stmt_parts, opener_form, opener_p
 use Rattle.script_tree.specs.Names.{sort_of, sort_number}
 use Rattle.script_tree.specs.Parts.{Part, number_part, operand_part, comp_part, test_part, name_part, Shape, a_register, a_value, a_number, a_key, a_promise, a_comp, a_test, a_new_name, a_fillable, a_place}
 use Rattle.script_tree.specs.Tree.{Tree}
-use Rattle.script_tree.specs.Words.{is_name}
+use Rattle.script_tree.specs.Words.{class}
+use Rattle.script_tree.specs.declared.class.Class.TheVariants as class_is
 
 -- ---- parts
 
@@ -56,7 +57,7 @@ PartFits tree a_key (number_part n) = n < 16
 PartFits tree a_promise (number_part n) = n < 8
 PartFits tree a_comp (comp_part c) = IsComp tree c
 PartFits tree a_test (test_part t) = Unit {0}
-PartFits tree a_new_name (name_part w) = IsTrue (is_name w)
+PartFits tree a_new_name (name_part w) = class w ≡ class_is.Name
 PartFits tree a_fillable (number_part n) = IsOfSort (λ s. (s == 6) || (s == 7)) (slice_get tree.decls n)
 PartFits tree (a_place sort.Text) (number_part n) = IsFiberText tree n
 PartFits tree (a_place s) (number_part n) = IsOfSort (λ t. t == sort_number s) (slice_get tree.decls n)
@@ -120,7 +121,10 @@ EventFits tree place (event.Guard l t r members) = OpenerFits tree (opener.Guard
 EventFits tree place e = FormFits tree (tree_form e) (event_parts e)
 
 abbrev pub DeclFits : Decl → Type 0
-DeclFits d = IsTrue (is_name d.name)
+DeclFits d = class d.name ≡ class_is.Name
+
+abbrev pub TextFits : Tree → Text → Type 0
+TextFits tree t = (class t.name ≡ class_is.Name) × (t.block < length tree.blocks)
 
 -- ---- names
 
@@ -156,7 +160,7 @@ pub record EndsInMain (tree : Tree) : Type 0 where
 
 pub record IsWellFormed (tree : Tree) : Type 0 where
   pub decls : AllByRecursion DeclFits tree.decls
-  pub texts : AllByRecursion (λ (t : Text). t.block < length tree.blocks) tree.texts
+  pub texts : AllByRecursion (TextFits tree) tree.texts
   pub main : EndsInMain tree
   pub blocks : (place : ℕ) (block : List Stmt) → slice_get tree.blocks place ≡ Some block
       → AllByRecursion (StmtFits tree place) block

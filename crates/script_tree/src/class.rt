@@ -6,6 +6,15 @@ ghost use Rattle.script_tree.specs.Words.{is_numeral as is_numeral_in, is_letter
 
 use std::str;
 
+/// How many registers there are.
+const REGISTERS: u32 = 16;
+
+/// How many promise registers there are.
+const PROMISE_REGISTERS: u32 = 8;
+
+/// How many bytes a name may have.
+const NAME_LENGTH: usize = 24;
+
 /// What a word is, by its bytes alone.
 #[derive(Clone, Copy)]
 pub enum Class {
@@ -80,7 +89,9 @@ fn is_name(word: &[u8]) -> bool
     ensures { result ≡ is_name_in word.now }
 {
     match word.first() {
-        Some(first) => first.is_ascii_lowercase() && word.len() <= 24 && are_name_bytes(word),
+        Some(first) => first.is_ascii_lowercase()
+            && word.len() <= NAME_LENGTH
+            && are_name_bytes(word),
         None => false,
     }
 }
@@ -103,7 +114,7 @@ fn register_of(digits: &[u8]) -> Class
         return Class::Other;
     }
     match number_of(digits) {
-        Some(number) if number < 16 => Class::Register(number as u8),
+        Some(number) if number < REGISTERS => Class::Register(number as u8),
         _ => Class::LargeRegister,
     }
 }
@@ -116,7 +127,7 @@ fn promise_of(digits: &[u8]) -> Class
         return Class::Other;
     }
     match number_of(digits) {
-        Some(number) if number < 8 => Class::Promise(number as u8),
+        Some(number) if number < PROMISE_REGISTERS => Class::Promise(number as u8),
         _ => Class::LargePromise,
     }
 }

@@ -111,6 +111,18 @@ impl Reading {
         }
     }
 
+    /// Leaves a group of events, and hands out its place and its members.
+    fn leave_group(&mut self) -> Option<(u32, Places)>
+        ensures none { IfNone result ((state_of self.new ≡ state_of self.old) × ((state_of self.old).outer ≡ [])) }
+        ensures some { IfSome result (λ p. (p.0 ≡ self.old.top.place) × (p.1 ≡ self.old.top.events.items) × (state_of self.old ≡ record (state_of self.new) { top = frame_of self.old.top; outer = frame_of self.new.top ∷ (state_of self.new).outer })) }
+    {
+        let inner = self.leave()?;
+        let members = Places {
+            items: inner.events,
+        };
+        Some((inner.place, members))
+    }
+
     /// Puts an event into its place, and into what is open.
     fn add_group(&mut self, place: u32, event: EventTree) -> Result<(), Memory>
         ensures { OnOk result (state_of self.new ≡ record (state_of self.old) { events = slice_set self.old.events.items place event; top = with_event (frame_of self.old.top) place }) }
@@ -123,43 +135,28 @@ impl Reading {
     fn close_choose(&mut self) -> Result<(), Memory>
         ensures { OnOk result (state_of self.new ≡ group_closed (state_of self.old) (event_is.Choose self.old.top.events.items)) }
     {
-        match self.leave() {
-            Some(inner) => {
-                let events = Places {
-                    items: inner.events,
-                };
-                self.add_group(inner.place, EventTree::Choose(events))
-            }
-            None => Ok(()),
-        }
+        let Some((place, members)) = self.leave_group() else {
+            return Ok(());
+        };
+        self.add_group(place, EventTree::Choose(members))
     }
 
     fn close_wrap(&mut self, operand: Operand) -> Result<(), Memory>
         ensures { OnOk result (state_of self.new ≡ group_closed (state_of self.old) (event_is.Wrap operand self.old.top.events.items)) }
     {
-        match self.leave() {
-            Some(inner) => {
-                let events = Places {
-                    items: inner.events,
-                };
-                self.add_group(inner.place, EventTree::Wrap(operand, events))
-            }
-            None => Ok(()),
-        }
+        let Some((place, members)) = self.leave_group() else {
+            return Ok(());
+        };
+        self.add_group(place, EventTree::Wrap(operand, members))
     }
 
     fn close_guard(&mut self, left: Operand, test: Test, right: Operand) -> Result<(), Memory>
         ensures { OnOk result (state_of self.new ≡ group_closed (state_of self.old) (event_is.Guard left test right self.old.top.events.items)) }
     {
-        match self.leave() {
-            Some(inner) => {
-                let events = Places {
-                    items: inner.events,
-                };
-                self.add_group(inner.place, EventTree::Guard(left, test, right, events))
-            }
-            None => Ok(()),
-        }
+        let Some((place, members)) = self.leave_group() else {
+            return Ok(());
+        };
+        self.add_group(place, EventTree::Guard(left, test, right, members))
     }
 
     /// Ends what is open.

@@ -4,6 +4,12 @@ ghost use Rattle.script_tree.specs.Reading.{breaks_in, bundle_count, is_deep as 
 
 use crate::opener::Opener;
 
+/// How many blocks may stand in one another.
+const DEPTH_LIMIT: u32 = 32;
+
+/// How many bundles and flocks may stand in one another.
+const BUNDLE_LIMIT: u32 = 8;
+
 /// How deep inside blocks something stands.
 #[derive(Clone, Copy)]
 pub struct Level {
@@ -43,6 +49,6 @@ impl Level {
     pub fn is_too_deep(self, what: Opener) -> bool
         ensures { result ≡ is_deep_in self what }
     {
-        self.depth >= 32 || (what.is_bundle() && self.bundles >= 8)
+        self.depth >= DEPTH_LIMIT || (what.is_bundle() && self.bundles >= BUNDLE_LIMIT)
     }
 }

@@ -51,6 +51,3 @@ pub use program::{
     Block, CompRef, Decl, EventTree, Kind, Name, Operand, Places, Program, Stmt, Test, Text, most,
 };
 pub use refusal::{ParseRefusal, Refused};
-
-#[cfg(test)]
-mod tests;

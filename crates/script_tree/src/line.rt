@@ -1,10 +1,8 @@
 //! Lines that were read: one call for every form, and the declarations.
-ghost use Rattle.std.specs.Prelude.{◌≡◌, ◌∷◌, [], Some, Ok, Err, IfOk, MatchResult};
-ghost use Rattle.script_tree.specs.Forms.{shapes, decl_form_shapes};
+ghost use Rattle.std.specs.Prelude.{IfOk};
 ghost use Rattle.script_tree.specs.Lines.{line_form, line_parts};
-ghost use Rattle.script_tree.specs.Parts.{words_read};
 ghost use Rattle.script_tree.specs.Slices.{words_of};
-ghost use Rattle.script_tree.specs.Stand.{IsFree};
+ghost use Rattle.script_tree.specs.Stand.{IsFree, IsRead};
 ghost use Rattle.script_tree.specs.declared.form.Form.TheVariants as form_is;
 
 use crate::behind::{name_and_number, none, one, one_name};
@@ -35,7 +33,7 @@ pub enum Line<'a> {
 /// Reads the words behind the one that tells a declaration.
 fn declaration_of<'a>(names: &Names, form: DeclForm, words: &[&'a [u8]]) -> Result<Line<'a>, Cause>
     ensures free { IfOk result (λ l. IsFree names.now l) }
-    ensures read { MatchResult result (λ l. (words_read names.now (decl_form_shapes form) (words_of words.now) ≡ Ok (line_parts l)) × (line_form l ≡ Some (form_is.Declare form))) (λ c. words_read names.now (decl_form_shapes form) (words_of words.now) ≡ Err c) }
+    ensures read { IsRead line_form line_parts (form_is.Declare form) names.now (words_of words.now) result }
 {
     match form {
         DeclForm::Trigger => Ok(Line::Declare(Kind::Trigger, one_name(names, words)?)),
@@ -58,7 +56,7 @@ fn declaration_of<'a>(names: &Names, form: DeclForm, words: &[&'a [u8]]) -> Resu
 /// Reads the words of a line behind the word that tells its form.
 pub fn line_of<'a>(names: &Names, form: Form, words: &[&'a [u8]]) -> Result<Line<'a>, Cause>
     ensures free { IfOk result (λ l. IsFree names.now l) }
-    ensures read { MatchResult result (λ l. (words_read names.now (shapes form) (words_of words.now) ≡ Ok (line_parts l)) × (line_form l ≡ Some form)) (λ c. words_read names.now (shapes form) (words_of words.now) ≡ Err c) }
+    ensures read { IsRead line_form line_parts form names.now (words_of words.now) result }
 {
     match form {
         Form::Declare(form) => declaration_of(names, form, words),

@@ -1,10 +1,8 @@
 //! Reads the lines of blocks, selects, groups of events and single events.
-ghost use Rattle.std.specs.Prelude.{◌≡◌, Some, Ok, Err, MatchResult};
-ghost use Rattle.script_tree.specs.Parts.{words_read};
 ghost use Rattle.script_tree.specs.Slices.{words_of};
 ghost use Rattle.script_tree.specs.declared.form.Form.TheVariants as form_is;
-ghost use Rattle.script_tree.specs.Forms.{block_form_shapes, group_form_shapes, event_form_shapes};
 ghost use Rattle.script_tree.specs.Lines.{opener_form, opener_parts, tree_form, event_parts};
+ghost use Rattle.script_tree.specs.Stand.{IsRead};
 
 use crate::behind::{none, one, three, two};
 use crate::cause::Cause;
@@ -17,7 +15,7 @@ use crate::program::{CompRef, EventTree, Operand, Test};
 
 /// Reads the words behind the one that tells a block.
 pub fn block_of(names: &Names, form: BlockForm, words: &[&[u8]]) -> Result<Opener, Cause>
-    ensures { MatchResult result (λ x. (words_read names.now (block_form_shapes form) (words_of words.now) ≡ Ok (opener_parts x)) × (opener_form x ≡ Some (form_is.Block form))) (λ c. words_read names.now (block_form_shapes form) (words_of words.now) ≡ Err c) }
+    ensures { IsRead opener_form opener_parts (form_is.Block form) names.now (words_of words.now) result }
 {
     match form {
         BlockForm::If => {
@@ -69,7 +67,7 @@ pub fn block_of(names: &Names, form: BlockForm, words: &[&[u8]]) -> Result<Opene
 
 /// Reads the words behind the one that tells a group of events.
 pub fn group_of(names: &Names, form: GroupForm, words: &[&[u8]]) -> Result<Opener, Cause>
-    ensures { MatchResult result (λ x. (words_read names.now (group_form_shapes form) (words_of words.now) ≡ Ok (opener_parts x)) × (opener_form x ≡ Some (form_is.Group form))) (λ c. words_read names.now (group_form_shapes form) (words_of words.now) ≡ Err c) }
+    ensures { IsRead opener_form opener_parts (form_is.Group form) names.now (words_of words.now) result }
 {
     match form {
         GroupForm::Choose => {
@@ -89,7 +87,7 @@ pub fn group_of(names: &Names, form: GroupForm, words: &[&[u8]]) -> Result<Opene
 
 /// Reads the words behind the one that tells an event.
 pub fn event_of(names: &Names, form: EventForm, words: &[&[u8]]) -> Result<EventTree, Cause>
-    ensures { MatchResult result (λ x. (words_read names.now (event_form_shapes form) (words_of words.now) ≡ Ok (event_parts x)) × (tree_form x ≡ Some (form_is.Event form))) (λ c. words_read names.now (event_form_shapes form) (words_of words.now) ≡ Err c) }
+    ensures { IsRead tree_form event_parts (form_is.Event form) names.now (words_of words.now) result }
 {
     match form {
         EventForm::Ivar => {

@@ -6,6 +6,7 @@ ghost use Rattle.script_tree.specs.Slices.{words_of};
 ghost use Rattle.script_tree.specs.Reading.{start};
 ghost use Rattle.script_tree.specs.Denial.{Denies};
 ghost use Rattle.script_tree.specs.Stand.{state_of, tree_of_parts, refusal_for, refusal_for_words};
+ghost use Rattle.script_tree.specs.Told.{EachFormIsTold};
 ghost use Rattle.script_tree.specs.WellFormed.{IsWellFormed};
 ghost use Rattle.script_tree.specs.Within.{AreWithin};
 
@@ -126,12 +127,15 @@ fn read_script(
 ///
 /// A text that is no script is refused with its first fault: first all lines are read as words,
 /// then the lines in order, and the words of a line from left to right. Want of memory may come at
-/// any time. Each program that is read is well-formed, so no one above needs to test it again.
+/// any time. Each program that is read is well-formed, so no one above needs to test it again. Each
+/// form that a line can have is read: the words that tell it tell no other.
+#[tactic(auto, using(crate::proofs::Leads::all_told))]
 pub fn parse(alloc: Global, text: &[u8]) -> Result<Program, ParseRefusal>
     requires { length text.now ≤ 16777216 }
     ensures program { IfOk result (λ p. grammar text.now ≡ Ok p) }
     ensures formed { IfOk result (λ p. IsWellFormed p) }
     ensures refused { IfErr result (λ e. Denies e (grammar text.now)) }
+    ensures told { EachFormIsTold }
 {
     match tokens(alloc, text) {
         Ok(found) => match read_script(alloc, text, &found.words, found.lines + 1) {

@@ -13,6 +13,9 @@ use crate::thing::{Sort, Thing};
 use pic_base::Memory;
 use std::fmt::Write;
 
+/// How many keys the storage has.
+const KEYS: u32 = 16;
+
 /// What can be read at one place of a line form.
 pub trait Part: Copy {
     ghost shape: { Shape };
@@ -131,7 +134,7 @@ impl Part for Key {
 
     fn read(_names: &Names, word: &[u8]) -> Result<Self, Cause> {
         match class_of(word) {
-            Class::Number(number) if number < 16 => Ok(Key(number as u8)),
+            Class::Number(number) if number < KEYS => Ok(Key(number as u8)),
             Class::Number(_) => Err(Cause::LargeRegister),
             Class::LargeNumber => Err(Cause::LargeNumber),
             _ => Err(Cause::Word),

@@ -1,10 +1,8 @@
 //! Reads the lines of statements that hold no others.
-ghost use Rattle.std.specs.Prelude.{◌≡◌, Some, Ok, Err, MatchResult};
-ghost use Rattle.script_tree.specs.Parts.{words_read};
 ghost use Rattle.script_tree.specs.Slices.{words_of};
 ghost use Rattle.script_tree.specs.declared.form.Form.TheVariants as form_is;
-ghost use Rattle.script_tree.specs.Forms.{basic_form_shapes, comp_form_shapes, object_form_shapes, fiber_form_shapes};
 ghost use Rattle.script_tree.specs.Lines.{stmt_form, stmt_parts};
+ghost use Rattle.script_tree.specs.Stand.{IsRead};
 
 use crate::behind::{none, one, three, two};
 use crate::cause::Cause;
@@ -16,7 +14,7 @@ use crate::program::{CompRef, Operand, Stmt};
 
 /// Reads the words behind the one that tells a basic statement.
 pub fn basic_of(names: &Names, form: BasicForm, words: &[&[u8]]) -> Result<Stmt, Cause>
-    ensures { MatchResult result (λ x. (words_read names.now (basic_form_shapes form) (words_of words.now) ≡ Ok (stmt_parts x)) × (stmt_form x ≡ Some (form_is.Basic form))) (λ c. words_read names.now (basic_form_shapes form) (words_of words.now) ≡ Err c) }
+    ensures { IsRead stmt_form stmt_parts (form_is.Basic form) names.now (words_of words.now) result }
 {
     match form {
         BasicForm::Set => {
@@ -76,7 +74,7 @@ pub fn basic_of(names: &Names, form: BasicForm, words: &[&[u8]]) -> Result<Stmt,
 
 /// Reads the words behind the one that tells a statement on computations.
 pub fn comp_of(names: &Names, form: CompForm, words: &[&[u8]]) -> Result<Stmt, Cause>
-    ensures { MatchResult result (λ x. (words_read names.now (comp_form_shapes form) (words_of words.now) ≡ Ok (stmt_parts x)) × (stmt_form x ≡ Some (form_is.Comp form))) (λ c. words_read names.now (comp_form_shapes form) (words_of words.now) ≡ Err c) }
+    ensures { IsRead stmt_form stmt_parts (form_is.Comp form) names.now (words_of words.now) result }
 {
     match form {
         CompForm::Signal => {
@@ -120,7 +118,7 @@ pub fn comp_of(names: &Names, form: CompForm, words: &[&[u8]]) -> Result<Stmt, C
 
 /// Reads the words behind the one that tells a statement on objects.
 pub fn object_of(names: &Names, form: ObjectForm, words: &[&[u8]]) -> Result<Stmt, Cause>
-    ensures { MatchResult result (λ x. (words_read names.now (object_form_shapes form) (words_of words.now) ≡ Ok (stmt_parts x)) × (stmt_form x ≡ Some (form_is.Object form))) (λ c. words_read names.now (object_form_shapes form) (words_of words.now) ≡ Err c) }
+    ensures { IsRead stmt_form stmt_parts (form_is.Object form) names.now (words_of words.now) result }
 {
     match form {
         ObjectForm::Lock => {
@@ -204,7 +202,7 @@ pub fn object_of(names: &Names, form: ObjectForm, words: &[&[u8]]) -> Result<Stm
 
 /// Reads the words behind the one that tells a statement on fibers.
 pub fn fiber_of(names: &Names, form: FiberForm, words: &[&[u8]]) -> Result<Stmt, Cause>
-    ensures { MatchResult result (λ x. (words_read names.now (fiber_form_shapes form) (words_of words.now) ≡ Ok (stmt_parts x)) × (stmt_form x ≡ Some (form_is.Fork form))) (λ c. words_read names.now (fiber_form_shapes form) (words_of words.now) ≡ Err c) }
+    ensures { IsRead stmt_form stmt_parts (form_is.Fork form) names.now (words_of words.now) result }
 {
     match form {
         FiberForm::Spawn => {

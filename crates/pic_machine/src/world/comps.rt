@@ -1,8 +1,8 @@
 //! Computations, and what is attached to them.
-ghost use Rattle.std.specs.Prelude.{◌≡◌, ◌<◌, length, slice_get, IfOk, OnErr, OnOk};
+ghost use Rattle.std.specs.Prelude.{◌≡◌, ◌<◌, length, slice_get, slice_set, IfOk, OnErr, OnOk};
 ghost use Rattle.pic_machine.specs.State.{owed_of};
-ghost use Rattle.pic_machine.specs.Duty.{followed};
-ghost use Rattle.pic_machine.specs.Step.{MayAct, attached, completed, owing, peeked, with_attached, with_outcome};
+ghost use Rattle.pic_machine.specs.Duty.{followed, fulfilled};
+ghost use Rattle.pic_machine.specs.Step.{MayAct, attached, completed, peeked, with_attached, with_outcome, with_signals};
 
 use super::World;
 use crate::entry::{AttachReply, CompleteReply, Reply};
@@ -14,7 +14,9 @@ impl World {
     pub(super) fn attach(&mut self, comp: CompNo, trigger: TriggerNo) -> Result<AttachReply, Memory>
         requires { comp < length self.old.comps }
         ensures reply { IfOk result (λ how. Reply.Attached how ≡ attached (slice_get self.old.comps comp)) }
-        ensures after { OnOk result (self.new ≡ with_attached self.old comp trigger (slice_get self.old.comps comp)) }
+        ensures after { OnOk result (self.new ≡ record self.old {
+          comps = with_attached self.old.comps comp trigger (slice_get self.old.comps comp);
+        }) }
         ensures err { OnErr result (self.new ≡ self.old) }
     {
         match &mut self.comps[comp as usize] {
@@ -37,7 +39,11 @@ impl World {
         requires comp { comp < length self.old.comps }
         requires caller { MayAct self.old fiber }
         ensures reply { IfOk result (λ how. Reply.Completed how ≡ completed (slice_get self.old.comps comp)) }
-        ensures after { OnOk result (self.new ≡ with_outcome self.old fiber comp outcome (slice_get self.old.comps comp)) }
+        ensures after { OnOk result (self.new ≡ record self.old {
+          comps = with_outcome self.old.comps comp outcome (slice_get self.old.comps comp);
+          owed = slice_set self.old.owed fiber
+            (with_signals (slice_get self.old.comps comp) (fulfilled (owed_of self.old fiber)));
+        }) }
         ensures err { OnErr result (self.new ≡ self.old) }
     {
         let owed = &mut self.owed[fiber as usize];
@@ -60,7 +66,10 @@ impl World {
         requires comp { comp < length self.old.comps }
         requires caller { MayAct self.old fiber }
         ensures reply { Reply.Peeked result ≡ peeked (slice_get self.old.comps comp) }
-        ensures after { self.new ≡ owing self.old fiber (followed (owed_of self.old fiber) (slice_get self.old.comps comp)) }
+        ensures after { self.new ≡ record self.old {
+          owed = slice_set self.old.owed fiber
+            (followed (owed_of self.old fiber) (slice_get self.old.comps comp));
+        } }
     {
         let outcome = match &self.comps[comp as usize] {
             CompState::Running(_) => None,

@@ -1,6 +1,6 @@
 //! Fibers.
-ghost use Rattle.std.specs.Prelude.{◌≡◌, ◌-◌, slice_set, IfOk, OnErr, OnOk};
-ghost use Rattle.pic_machine.specs.Step.{IsLive, fork_reply, with_fiber};
+ghost use Rattle.std.specs.Prelude.{◌≡◌, ◌-◌, [], slice_set, IfOk, OnErr, OnOk};
+ghost use Rattle.pic_machine.specs.Step.{IsLive, fork_reply, grown, has_room};
 
 use super::World;
 use crate::duties::Duties;
@@ -12,7 +12,10 @@ impl World {
     /// Makes a fiber, where there may be one more.
     pub(super) fn fork(&mut self) -> Result<Reply, Memory>
         ensures reply { IfOk result (λ reply. reply ≡ fork_reply self.old) }
-        ensures after { OnOk result (self.new ≡ with_fiber self.old) }
+        ensures after { OnOk result (self.new ≡ record self.old {
+          fibers = grown (has_room self.old) self.old.fibers FiberState.Live;
+          owed = grown (has_room self.old) self.old.owed [];
+        }) }
         ensures err { OnErr result (self.new ≡ self.old) }
     {
         let count = self.fibers.len();

@@ -1,11 +1,11 @@
 //! Triggers and places.
-ghost use Rattle.std.specs.Prelude.{◌≡◌, ◌<◌, ◌-◌, length, slice_get, slice_set, IfOk, OnErr, OnOk};
+ghost use Rattle.std.specs.Prelude.{◌≡◌, ◌<◌, length, nat_lt, slice_get, slice_set, IfOk, OnErr, OnOk};
 ghost use Rattle.pic_machine.specs.State.{owed_of};
 ghost use Rattle.pic_machine.specs.Duty.{fulfilled};
-ghost use Rattle.pic_machine.specs.Step.{IsLive, MayAct, acted, armed, made_below, owing, seen, signalled, with_action, with_place, with_trigger};
+ghost use Rattle.pic_machine.specs.Step.{IsLive, MayAct, armed, grown, made_below, places_after, resumed, seen, signalled, with_action, with_waiting};
 
 use super::World;
-use crate::entry::{ArmReply, Reply, SignalReply};
+use crate::entry::{ArmReply, Call, Reply, SignalReply};
 use crate::state::{FiberState, TrigState};
 use pic_base::{Action, FiberNo, Memory, TriggerNo};
 
@@ -13,7 +13,10 @@ impl World {
     /// Makes a trigger, where there may be one more.
     pub(super) fn new_trigger(&mut self) -> Result<Reply, Memory>
         ensures reply { IfOk result (λ reply. reply ≡ made_below (length self.old.triggers) self.old.limits.triggers) }
-        ensures after { OnOk result (self.new ≡ with_trigger self.old) }
+        ensures after { OnOk result (self.new ≡ record self.old {
+          triggers = grown (nat_lt (length self.old.triggers) self.old.limits.triggers)
+            self.old.triggers TrigState.Initial;
+        }) }
         ensures err { OnErr result (self.new ≡ self.old) }
     {
         let count = self.triggers.len();
@@ -27,7 +30,7 @@ impl World {
     /// Makes a place, where there may be one more.
     pub(super) fn new_place(&mut self) -> Reply
         ensures reply { result ≡ made_below self.old.places self.old.limits.places }
-        ensures after { self.new ≡ with_place self.old }
+        ensures after { self.new ≡ record self.old { places = places_after self.old Call.NewPlace } }
     {
         if self.places >= self.limits.places {
             return Reply::Full;
@@ -51,7 +54,11 @@ impl World {
         requires trigger { trigger < length self.old.triggers }
         requires caller { IsLive self.old fiber }
         ensures reply { Reply.Armed result ≡ armed (slice_get self.old.triggers trigger) }
-        ensures after { self.new ≡ with_action self.old fiber trigger action (slice_get self.old.triggers trigger) }
+        ensures after { self.new ≡ record self.old {
+          triggers = with_action self.old.triggers trigger action (slice_get self.old.triggers trigger);
+          fibers = with_waiting self.old.fibers fiber trigger action
+            (slice_get self.old.triggers trigger);
+        } }
     {
         match self.triggers[trigger as usize] {
             TrigState::Initial => {
@@ -72,8 +79,11 @@ impl World {
         requires trigger { trigger < length self.old.triggers }
         requires caller { MayAct self.old fiber }
         ensures reply { Reply.Signalled result ≡ signalled (slice_get self.old.triggers trigger) }
-        ensures after { self.new ≡ acted (record (owing self.old fiber (fulfilled (owed_of self.old fiber)))
-            { triggers = slice_set self.old.triggers trigger TrigState.Signalled }) (slice_get self.old.triggers trigger) }
+        ensures after { self.new ≡ record self.old {
+          triggers = slice_set self.old.triggers trigger TrigState.Signalled;
+          fibers = resumed self.old.fibers (slice_get self.old.triggers trigger);
+          owed = slice_set self.old.owed fiber (fulfilled (owed_of self.old fiber));
+        } }
     {
         self.owed[fiber as usize].fulfil();
         let state = self.triggers[trigger as usize];

@@ -1,24 +1,25 @@
 //! Calls for a body that is out: it is lent and stays out, or is handed over and comes back.
 ghost use Rattle.std.specs.Prelude.{◌≡◌, ◌≢◌, None, IfErr, IfOk, OnOk};
 ghost use Rattle.pic_machine.specs.Step.{reply_of};
-ghost use Rattle.pic_machine.specs.History.{event, origin_of, world};
+ghost use Rattle.pic_machine.specs.History.{event, world};
 ghost use Rattle.pic_machine.specs.Log.{log};
 ghost use Rattle.pic_machine.specs.Sight.{CanMake, fiber_of};
-ghost use Rattle.pic_machine.specs.Lending.{Called, FitsWith, Made, Refuses};
-ghost use Rattle.port_plain.specs.Shown.{IsLast, IsLent, sight_of};
+ghost use Rattle.pic_machine.specs.Lending.{Answered, FitsWith, Made, Refuses};
+ghost use Rattle.port_plain.specs.Shown.{IsLast, IsLent, origin_in, sight_of};
 
 use super::PlainPort;
-use pic_machine::{Call, Carried, Entry, PortFault, Reply};
+use pic_machine::{Call, Carried, PortFault, Reply};
 
 impl<B: Carried> PlainPort<B> {
     /// Makes a call of the body's fiber, and notes its entry.
+    #[inline(always)]
     pub(crate) fn lend(&mut self, body: &mut B, call: Call) -> Result<Reply, PortFault>
         requires can { CanMake (sight_of B.seen self.old) (B.seen body.old) call }
         requires lent { IsLent call }
-        ensures made { IfOk result (λ reply. Called (sight_of B.seen self.old) (sight_of B.seen self.new)
+        ensures made { IfOk result (λ reply. Answered (sight_of B.seen self.old) (sight_of B.seen self.new)
             (B.seen body.old) (B.seen body.new) call reply) }
         ensures reply { IfOk result (λ reply. reply ≡ reply_of
-            (world (origin_of self.old.start) self.old.front) (fiber_of (B.seen body.old)) call) }
+            (world (origin_in B.seen self.old) self.old.front) (fiber_of (B.seen body.old)) call) }
         ensures none { IfErr result (λ fault. Refuses fault (sight_of B.seen self.old)
             (sight_of B.seen self.new) (B.seen body.old) (B.seen body.new)) }
         ensures rest { B.same_rest body.old body.new }
@@ -27,11 +28,12 @@ impl<B: Carried> PlainPort<B> {
         let Ok(reply) = self.make(fiber, call) else {
             return Err(PortFault::Memory);
         };
-        body.note(Entry { fiber, call, reply });
+        body.note(call, reply);
         Ok(reply)
     }
 
     /// Makes the last call of a turn of the body's fiber, notes its entry, and takes the body back.
+    #[inline(always)]
     pub(crate) fn finish(&mut self, body: B, call: Call) -> Result<(), (B, PortFault)>
         requires can { CanMake (sight_of B.seen self.old) (B.seen body) call }
         requires last { IsLast call }
@@ -49,7 +51,7 @@ impl<B: Carried> PlainPort<B> {
         let Ok(reply) = self.make(fiber, call) else {
             return Err((body, PortFault::Memory));
         };
-        body.note(Entry { fiber, call, reply });
+        body.note(call, reply);
         self.keep(body);
         Ok(())
     }

@@ -2,17 +2,20 @@
 ghost use Rattle.std.specs.Prelude.{◌≡◌, ◌≤◌, ◌∷◌, ℕ, [], Some, None, IfErr, IfOk, map, slice_get, vec_len, vec_capacity};
 ghost use Rattle.pic_machine.specs.State.{CanStart};
 ghost use Rattle.pic_machine.specs.Log.{entries};
-ghost use Rattle.port_plain.specs.Closing.{IsLeft};
-ghost use Rattle.port_plain.specs.Shown.{IsClock, IsMain, sight_of};
+ghost use Rattle.pic_machine.specs.Closing.{IsLeft};
+ghost use Rattle.port_plain.specs.Closing.{OwesAsLeft};
+ghost use Rattle.port_plain.specs.Shown.{IsClock, IsMain, origin_in, sight_of};
 
 use super::PlainPort;
+use entry_log::EntryLog;
 use pic_base::Memory;
-use pic_machine::{Carried, Closed, Entry, Start, World};
+use pic_machine::{Carried, Closed, Start, World};
 use std::alloc::Global;
 use std::snapshot::Snapshot;
 
 impl<B: Carried> PlainPort<B> {
-    /// The port before the first entry, with the bodies of main and of the clock at home.
+    /// The port before the first entry, with the bodies of main and of the clock at home. Main's birth
+    /// is as it was given; its number is set to 1, and room is made for an entry of the clock.
     pub fn open(alloc: Global, start: &Start, main: B, clock: B) -> Result<PlainPort<B>, Memory>
         requires start { CanStart start.now }
         requires main { IsMain B.seen B.fits start.now main }
@@ -23,7 +26,7 @@ impl<B: Carried> PlainPort<B> {
         let of_main = Snapshot::of(&main);
         let (mut main, mut clock) = (main, clock);
         main.number(1);
-        clock.number(0);
+        clock.reserve()?;
         let mut bodies = Vec::with_capacity(alloc, 1)?;
         bodies.push(Some(main))?;
         Ok(PlainPort {
@@ -31,7 +34,7 @@ impl<B: Carried> PlainPort<B> {
             start: *start,
             main: of_main,
             world: World::start(alloc, start)?,
-            history: Vec::new(alloc),
+            history: EntryLog::new(alloc),
             births: Vec::new(alloc),
             bodies,
             clock,
@@ -42,7 +45,9 @@ impl<B: Carried> PlainPort<B> {
     /// The bodies of all fibers, in order of their numbers, and the clock's.
     pub fn close(self) -> Result<Closed<B>, PlainPort<B>>
         requires { self.out ≡ None }
-        ensures left { IfOk result (IsLeft B.seen B.fits (sight_of B.seen self)) }
+        ensures left { IfOk result (IsLeft B.seen B.fits
+            (origin_in B.seen self) (B.seen self.main).share self.front) }
+        ensures owes { IfOk result (OwesAsLeft B.seen (sight_of B.seen self)) }
         ensures err { IfErr result (λ port. port ≡ self) }
     {
         let (closed, _) = self.close_with_history()?;
@@ -50,10 +55,12 @@ impl<B: Carried> PlainPort<B> {
     }
 
     /// The same, and beside it the entries of all that happened, which aren't copied.
-    pub fn close_with_history(self) -> Result<(Closed<B>, Vec<Entry>), PlainPort<B>>
+    pub fn close_with_history(self) -> Result<(Closed<B>, EntryLog), PlainPort<B>>
         requires { self.out ≡ None }
-        ensures left { IfOk result (λ left. IsLeft B.seen B.fits (sight_of B.seen self) left.0) }
-        ensures history { IfOk result (λ left. left.1.items ≡ entries self.front) }
+        ensures left { IfOk result (λ left. IsLeft B.seen B.fits
+            (origin_in B.seen self) (B.seen self.main).share self.front left.0) }
+        ensures owes { IfOk result (λ left. OwesAsLeft B.seen (sight_of B.seen self) left.0) }
+        ensures history { IfOk result (λ left. left.1.entries ≡ entries self.front) }
         ensures err { IfErr result (λ port. port ≡ self) }
     {
         let mut bodies = Vec::new(self.alloc);

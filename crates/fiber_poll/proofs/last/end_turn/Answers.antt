@@ -1,42 +1,29 @@
 use Rattle.std.proofs.Common.{None, refl, ◌∙◌}
 use Rattle.pic_machine.specs.declared.entry.Call.TheVariants.{End}
-use Rattle.pic_machine.specs.declared.entry.Reply.TheVariants.{Plain}
-use Rattle.pic_machine.specs.History.{event}
-use Rattle.pic_machine.specs.Sight.{fiber_of}
+use Rattle.pic_machine.specs.declared.poller.Turn.TheVariants as turn
+use Rattle.pic_machine.specs.declared.port.PortFault.TheVariants.{Memory}
 use Rattle.pic_machine.specs.Turning.{EndsSo}
 use Rattle.pic_machine.proofs.Turns.{Adds-nil}
-use Rattle.fiber_body.specs.Shown.{carry_of}
-use Rattle.fiber_poll.proofs.Going.{gave_up, on_refused, on_reserved, on_trans}
-use Rattle.fiber_poll.proofs.Ending.{fits_ended, handed, handed_memory, stopped}
+use Rattle.fiber_body.specs.declared.standing.Standing.TheVariants.{Ended, Ending}
+use Rattle.fiber_poll.proofs.Giving.{fits_ended, handed, handed_set_back, stopped}
+use Rattle.fiber_poll.proofs.Going.{on_reserved}
 use Rattle.fiber_poll.proofs.last.end_turn.Goals as goal
 
 pub returns-then-is_err : goal.returns-then-is_err
-returns-then-is_err g c =
-    λ told. let port = g.P.Port.sight c.args.port.now in
-    handed_memory port port c.args.body c.reserve.new.self told told (on_reserved port c.args.body c.reserve.new.self told c.requires.up c.reserve.ensures.notes c.reserve.ensures.rest)
+returns-then-is_err g c = λ told. handed Memory (turn.Memory c.reserve.new.self) (on_reserved {told = told} c.requires.up c.reserve.ensures.notes c.reserve.ensures.rest) refl refl
 
 pub end-requires-clause-after : goal.end-requires-clause-after
 end-requires-clause-after g c =
-    λ noted notes rest.
-    let port = g.P.Port.sight c.args.port.now in
-    let on = on_reserved port c.args.body c.reserve.new.self None c.requires.up c.reserve.ensures.notes c.reserve.ensures.rest in
-    fits_ended port c.reserve.new.self noted c.args.outcome on.up (c.reserve.ensures.rest.standing ∙ c.requires.leaving) notes rest
+    let on = on_reserved {told = None} c.requires.up c.reserve.ensures.notes c.reserve.ensures.rest in
+    fits_ended on.up c.args.outcome c.steps-steps.result (c.reserve.ensures.rest.standing ∙ c.requires.ending) c.steps-steps.ensures c.stand.ensures
 
 pub returns-in-Ok : goal.returns-in-Ok
-returns-in-Ok g c =
-    λ told. let port = g.P.Port.sight c.args.port.now in
-    let later = g.P.Port.sight c.end.new.self in
-    let ready = c.reserve.new.self in
-    stopped port later c.args.body ready told told (event (fiber_of (carry_of ready)) (End c.args.outcome) Plain) (λ h. EndsSo h.entry.call)
-    (on_reserved port c.args.body ready told c.requires.up c.reserve.ensures.notes c.reserve.ensures.rest)
-    c.in-Ok.ensures.made refl refl refl tt (Adds-nil told) c.in-Ok.ensures.out
+returns-in-Ok g c = λ told.
+    let on = on_reserved {told = told} c.requires.up c.reserve.ensures.notes c.reserve.ensures.rest in
+    stopped Ended c.steps-steps.result (End c.args.outcome) (λ h. EndsSo h.entry.call) on c.stand.ensures c.in-Ok.ensures.made refl refl tt (Adds-nil told) c.in-Ok.ensures.out
 
 pub returns-in-Err : goal.returns-in-Err
-returns-in-Err g c =
-    λ told. let port = g.P.Port.sight c.args.port.now in
-    let later = g.P.Port.sight c.end.new.self in
-    let reserved = on_reserved port c.args.body c.reserve.new.self told c.requires.up c.reserve.ensures.notes c.reserve.ensures.rest in
-    handed port later c.args.body c.in-Err.body told told c.in-Err.fault c.handed_back.result
-    (on_trans port port later c.args.body c.reserve.new.self c.in-Err.body told told told reserved
-    (on_refused port later c.reserve.new.self c.in-Err.body told c.in-Err.fault reserved.up c.in-Err.ensures.none.0 c.in-Err.ensures.none.1))
-    (gave_up port later c.reserve.new.self c.in-Err.body told c.in-Err.fault c.in-Err.ensures.none.0.1) c.handed_back.ensures
+returns-in-Err g c = λ told.
+    let on = on_reserved {told = told} c.requires.up c.reserve.ensures.notes c.reserve.ensures.rest in
+    handed_set_back Ended (Ending c.args.outcome) c.steps-steps.result c.steps-steps.result c.in-Err.fault c.handed_back.result on c.stand.ensures c.in-Err.ensures.none
+    (c.reserve.ensures.rest.standing ∙ c.requires.ending) c.steps-steps.ensures c.stand-in-Err.ensures c.handed_back.ensures

@@ -1,38 +1,54 @@
-use Rattle.std.proofs.Common.{sym, subst, arith, ◌∙◌}
+use Rattle.std.proofs.Common.{◌≡◌, ◌<◌, sym, subst, arith, ◌∙◌}
+use Rattle.std.specs.Bool.{OnFalse, OnTrue}
+use Rattle.fiber_body.specs.Phases.{calls}
 use Rattle.fiber_body.specs.Shown.{Shown}
-use Rattle.fiber_poll.specs.Moving.{Moves}
-use Rattle.fiber_poll.specs.UnderWay.{IsAt, IsOn}
-use Rattle.fiber_poll.proofs.Going.{on_moved, on_none}
-use Rattle.fiber_poll.proofs.Moved.{costs_step, moves_spent}
+use Rattle.fiber_body.specs.Statements.{first, result}
+use Rattle.fiber_poll.specs.Moving.{Goes, IsBefore}
+use Rattle.fiber_poll.specs.UnderWay.{IsOn, IsUp}
+use Rattle.fiber_poll.proofs.Entering.{spent_goes}
+use Rattle.fiber_poll.proofs.Going.{on_gone, on_none}
 use Rattle.fiber_poll.proofs.turn.begin.Goals as goal
 
-pub returns-in-Ok-clause-on : goal.returns-in-Ok-clause-on
-returns-in-Ok-clause-on g c = on_moved (g.P.Port.sight c.args.port.now) c.args.body.now c.enter_loop.new.body (g.R.ReadyLine.told c.args.line.now) c.requires.up c.in-Ok.ensures.moves
+pub returns-then-steps-eq0-clause-on : goal.returns-then-steps-eq0-clause-on
+returns-then-steps-eq0-clause-on g c =
+    let body : Shown = c.args.body.now in
+    on_gone c.requires.up (subst (Goes body) (sym c.stand.ensures) (spent_goes body c.args.spot c.args.stmt.now c.requires.at (sym c.steps.ensures ∙ c.if-steps-eq0.true)))
+
+pub returns-in-Yield-clause-on : goal.returns-in-Yield-clause-on
+returns-in-Yield-clause-on g c = on_none c.requires.up
+
+pub call-requires : goal.call-requires
+call-requires g c =
+    let body : Shown = c.args.body.now in
+    let one = c.args.stmt.now in
+    let same : c.enter_block.new.body ≡ body = subst (λ t. OnFalse t (c.enter_block.new.body ≡ body)) c.in-Ok-false.field-0-test c.in-Ok-false.ensures.none in
+    let some : 0 < body.context.steps = omega (arith, c.if-steps-eq0.false, c.steps.ensures) in
+    record {
+      port_of = c.requires.port_of;
+      up = subst (IsUp (g.P.Port.sight c.args.port.now)) (sym same) c.requires.up;
+      before = subst (λ (z : Shown). IsBefore z c.args.spot one) (sym same) (record { here = c.requires.at; steps = some });
+      not_done = subst (λ (z : Shown). result z.context.registers z.context.cells one ≡ _) (sym same) (c.requires.waits some).not_done;
+      calls = subst (λ (z : Shown). first z.context one ≡ calls one) (sym same) (subst (λ t. OnFalse t (first body.context one ≡ calls one)) c.in-Ok-false.field-0-test c.in-Ok-false.ensures.calls);
+      no_yield = c.in_default.not-Yield;
+      can = c.requires.can;
+    }
+
+pub returns-in_err-call-in-Ok-false-clause-on : goal.returns-in_err-call-in-Ok-false-clause-on
+returns-in_err-call-in-Ok-false-clause-on g c =
+    let same : c.enter_block.new.body ≡ c.args.body.now = subst (λ t. OnFalse t (c.enter_block.new.body ≡ c.args.body.now)) c.in-Ok-false.field-0-test c.in-Ok-false.ensures.none in
+    subst (λ (z : Shown). IsOn (g.P.Port.sight c.args.port.now) (g.P.Port.sight c.call.new.port) z c.call.new.body (g.R.ReadyLine.told c.args.line.now) (g.R.ReadyLine.told c.call.new.line)) same c.call.ensures.on
+
+pub returns-in-Ok-true-clause-on : goal.returns-in-Ok-true-clause-on
+returns-in-Ok-true-clause-on g c =
+    on_gone c.requires.up (subst (λ t. OnTrue t (Goes c.args.body.now c.enter_block.new.body)) c.in-Ok-true.field-0-test c.in-Ok-true.ensures.goes)
+
+pub returns-in_ok-call-in-Ok-false-clause-on : goal.returns-in_ok-call-in-Ok-false-clause-on
+returns-in_ok-call-in-Ok-false-clause-on g c =
+    let same : c.enter_block.new.body ≡ c.args.body.now = subst (λ t. OnFalse t (c.enter_block.new.body ≡ c.args.body.now)) c.in-Ok-false.field-0-test c.in-Ok-false.ensures.none in
+    subst (λ (z : Shown). IsOn (g.P.Port.sight c.args.port.now) (g.P.Port.sight c.call.new.port) z c.call.new.body (g.R.ReadyLine.told c.args.line.now) (g.R.ReadyLine.told c.call.new.line)) same c.call.ensures.on
 
 pub returns-in-Err-clause-on : goal.returns-in-Err-clause-on
 returns-in-Err-clause-on g c =
     let port = g.P.Port.sight c.args.port.now in
     let told = g.R.ReadyLine.told c.args.line.now in
-    subst (λ (b : Shown). IsOn port port c.args.body.now b told told) (sym c.in-Err.ensures.kept) (on_none port c.args.body.now told c.requires.up)
-
-pub returns-then-steps-eq0 : goal.returns-then-steps-eq0
-returns-then-steps-eq0 g c =
-    let body : Shown = c.args.body.now in
-    let moves : Moves body c.leave_spent.new.body = subst (Moves body) (sym c.leave_spent.ensures)
-    (moves_spent body c.args.spot c.args.stmt.now c.requires.at (costs_step c.args.stmt.now c.in_default.not-Loop) (sym c.steps.ensures ∙ c.if-steps-eq0.true)) in
-    record {
-      on = on_moved (g.P.Port.sight c.args.port.now) body c.leave_spent.new.body (g.R.ReadyLine.told c.args.line.now) c.requires.up moves;
-      step = moves.lighter;
-      gave_up = tt;
-    }
-
-pub returns-in-Yield : goal.returns-in-Yield
-returns-in-Yield g c = record {
-  on = on_none (g.P.Port.sight c.args.port.now) c.args.body.now (g.R.ReadyLine.told c.args.line.now) c.requires.up;
-  step = record {
-    here = subst (IsAt c.args.body.now c.args.spot) c.in-Yield.is c.requires.at;
-    costs = tt;
-    steps = omega (arith, c.if-steps-eq0.false, c.steps.ensures);
-  };
-  gave_up = tt;
-}
+    subst (λ (z : Shown). IsOn port port c.args.body.now z told told) (sym c.in-Err.ensures.kept) (on_none c.requires.up)

@@ -1,40 +1,35 @@
 use Rattle.std.proofs.lemmas.Result.{err_from_is_err_and}
-use Rattle.std.proofs.Common.{subst}
-use Rattle.std.specs.Arc.{arc_value}
+use Rattle.std.proofs.Common.{refl, subst, ◌∙◌}
 use Rattle.fiber_poll.specs.UnderWay.{IsStep}
-use Rattle.fiber_poll.proofs.Going.{on_none, on_trans}
-use Rattle.fiber_poll.proofs.Looping.{gave_up_after, port_stays}
+use Rattle.fiber_poll.proofs.Going.{gave_up_after, on_none, on_trans, port_stays}
+use Rattle.fiber_poll.proofs.Looping.{on_with}
 use Rattle.fiber_poll.proofs.turn.run_on.Goals as goal
 
 pub loop-outcome-init : goal.loop-outcome-init
-loop-outcome-init g c = on_none (g.P.Port.sight c.args.port.now) c.args.body.now (g.R.ReadyLine.told c.args.line.now) c.requires.up
+loop-outcome-init g c = (on_none c.requires.up, refl)
 
-pub run_block-requires-clause-port_of : goal.run_block-requires-clause-port_of
-run_block-requires-clause-port_of g c = port_stays (g.P.Port.sight c.args.port.now) (g.P.Port.sight c.loop-outcome.port) c.args.body.now c.loop-outcome.body (g.R.ReadyLine.told c.args.line.now) (g.R.ReadyLine.told c.loop-outcome.line) (arc_value c.args.poller.now.program) c.requires.port_of c.loop-outcome.invariant
+pub run_from-requires-clause-port_of : goal.run_from-requires-clause-port_of
+run_from-requires-clause-port_of g c = port_stays c.requires.port_of c.loop-outcome.invariant.0
 
-pub run_block-requires-clause-up : goal.run_block-requires-clause-up
-run_block-requires-clause-up g c = c.loop-outcome.invariant.up
+pub run_from-requires-clause-up : goal.run_from-requires-clause-up
+run_from-requires-clause-up g c = c.loop-outcome.invariant.0.up
 
 pub returns-in_err-last-in-At-clause-on : goal.returns-in_err-last-in-At-clause-on
-returns-in_err-last-in-At-clause-on g c =
-    on_trans (g.P.Port.sight c.args.port.now) (g.P.Port.sight c.loop-outcome.port) (g.P.Port.sight c.run_block.new.port) c.args.body.now c.loop-outcome.body c.run_block.new.body
-    (g.R.ReadyLine.told c.args.line.now) (g.R.ReadyLine.told c.loop-outcome.line) (g.R.ReadyLine.told c.run_block.new.line) c.loop-outcome.invariant c.run_block.ensures.on
+returns-in_err-last-in-At-clause-on g c = on_trans c.loop-outcome.invariant.0 c.run_from.ensures.on
 
 pub returns-in_err-last-in-At-clause-gave_up : goal.returns-in_err-last-in-At-clause-gave_up
 returns-in_err-last-in-At-clause-gave_up g c =
     let p = err_from_is_err_and c.from_residual.result c.from_residual.ensures.1 in
-    rw p.1 (rw p.2 (gave_up_after (g.P.Port.sight c.args.port.now) (g.P.Port.sight c.loop-outcome.port) c.args.body.now c.loop-outcome.body (g.R.ReadyLine.told c.args.line.now) (g.R.ReadyLine.told c.loop-outcome.line)
-    (g.P.Port.sight c.run_block.new.port) c.in_err-last-in-At.field-0.0 c.loop-outcome.invariant c.in_err-last-in-At.ensures.gave_up))
+    rw p.1 (rw p.2 (gave_up_after (g.P.Port.sight c.args.port.now) (g.P.Port.sight c.loop-outcome.port) (g.P.Port.sight c.run_from.new.port) c.in_err-last-in-At.field-0.0 c.loop-outcome.invariant.0.went.grew.later.steady c.loop-outcome.invariant.1 c.in_err-last-in-At.ensures.gave_up))
 
 pub returns-in-Some-clause-on : goal.returns-in-Some-clause-on
-returns-in-Some-clause-on g c =
-    on_trans (g.P.Port.sight c.args.port.now) (g.P.Port.sight c.loop-outcome.port) (g.P.Port.sight c.run_block.new.port) c.args.body.now c.loop-outcome.body c.run_block.new.body
-    (g.R.ReadyLine.told c.args.line.now) (g.R.ReadyLine.told c.loop-outcome.line) (g.R.ReadyLine.told c.run_block.new.line) c.loop-outcome.invariant c.run_block.ensures.on
+returns-in-Some-clause-on g c = on_trans c.loop-outcome.invariant.0 c.run_from.ensures.on
 
 pub loop-outcome-smaller : goal.loop-outcome-smaller
-loop-outcome-smaller g c = subst (IsStep c.loop-outcome.body c.run_block.new.body) c.in_default.is c.in_ok-last-in-At.ensures.step
+loop-outcome-smaller g c = subst (IsStep c.loop-outcome.body c.run_from.new.body) c.in_default.is c.in_ok-last-in-At.ensures.step
 
 pub loop-outcome-preserved : goal.loop-outcome-preserved
-loop-outcome-preserved g c =
-    on_trans (g.P.Port.sight c.args.port.now) (g.P.Port.sight c.loop-outcome.port) (g.P.Port.sight c.run_block.new.port) c.args.body.now c.loop-outcome.body c.run_block.new.body
-    (g.R.ReadyLine.told c.args.line.now) (g.R.ReadyLine.told c.loop-outcome.line) (g.R.ReadyLine.told c.run_block.new.line) c.loop-outcome.invariant c.run_block.ensures.on
+loop-outcome-preserved g c = (on_trans c.loop-outcome.invariant.0 c.run_from.ensures.on, c.in_ok-last-in-At.ensures.calm ∙ c.loop-outcome.invariant.1)
+
+pub loop-outcome-preserved-in-Out : goal.loop-outcome-preserved-in-Out
+loop-outcome-preserved-in-Out g c = (on_with c.loop-outcome.invariant.0 c.leave.ensures.goes, c.loop-outcome.invariant.1)

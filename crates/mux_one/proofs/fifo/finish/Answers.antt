@@ -1,8 +1,10 @@
-use Rattle.std.proofs.Common.{ap, Ok, ◌∙◌}
+use Rattle.std.proofs.Common.{ap, Ok, refl, ◌∙◌}
+use Rattle.pic_machine.proofs.Finals.{final_or_busy}
+use Rattle.pic_machine.proofs.Quiet.{IsQuiet-start}
 use Rattle.mux_one.proofs.Running.{found_over}
 use Rattle.mux_one.proofs.fifo.finish.Goals as goal
 
 pub unreachable-requires : goal.unreachable-requires
 unreachable-requires g c =
     let told = c.idle.ensures.busy (c.in-Ok-Busy.is ∙ ap Ok c.in-Ok-Busy.field-0-is) in
-    told.2 (found_over g.B.Carried.seen c.args.port c.idle.new.self c.requires.under_way told.0)
+    final_or_busy _ (found_over refl (IsQuiet-start c.args.port.start) c.requires.under_way told.0) told.2

@@ -1,7 +1,5 @@
 use Rattle.std.proofs.Common.{◌≡◌, List, length, get_or, ap, subst, arith}
-use Rattle.pic_machine.specs.declared.entry.Entry.{Entry}
 use Rattle.pic_report.specs.declared.view.FiberView.{FiberView}
-use Rattle.pic_report.specs.Lines.{IsNoted}
 use Rattle.pic_report.proofs.Found.{passed_all, passed_more}
 use Rattle.pic_report.proofs.completions.completions_of.Goals as goal
 
@@ -10,10 +8,10 @@ loop-fiber-preserved c =
     let views = c.deref-fiber-items.ensures.value in
     passed_more c.loop-fiber.found.items c.note_all.new.found.items c.args.count c.args.view.now.fibers.items c.loop-fiber.fiber-index c.fiber-item.result c.loop-fiber.invariant
     (omega (arith, ap (λ (vs : List FiberView). length vs) views)) (subst (λ (vs : List FiberView). c.fiber-item.result ≡ get_or vs c.loop-fiber.fiber-index c.fiber-item.result) views c.fiber-item.is)
-    (subst (λ (es : List Entry). IsNoted c.loop-fiber.found.items c.note_all.new.found.items es) c.as_slice.ensures.value c.note_all.ensures)
+    c.note_all.ensures
 
 pub returns-clause-each : goal.returns-clause-each
 returns-clause-each c =
-    passed_all c.loop-fiber.found.items c.note_all-2.new.found.items c.args.count c.args.view.now.fibers.items c.loop-fiber.fiber-index c.args.view.now.clock_entries.items c.loop-fiber.invariant
+    passed_all c.loop-fiber.found.items c.note_all-2.new.found.items c.args.count c.args.view.now.fibers.items c.loop-fiber.fiber-index c.args.view.now.clock_entries.entries c.loop-fiber.invariant
     (omega (arith, ap (λ (vs : List FiberView). length vs) c.deref-fiber-items.ensures.value))
-    (subst (λ (es : List Entry). IsNoted c.loop-fiber.found.items c.note_all-2.new.found.items es) c.as_slice-2.ensures.value c.note_all-2.ensures)
+    c.note_all-2.ensures

@@ -1,7 +1,7 @@
 use Rattle.std.proofs.Common.{◌≡◌, ◌+◌, ◌-◌, ◌<◌, Option, None, List, length, get_or, ap, ◌∙◌, arith}
 use Rattle.std.proofs.lemmas.Result.{err_from_is_err_and}
 use Rattle.pic_machine.specs.declared.state.Completion.{Completion}
-use Rattle.pic_machine.specs.Completing.{comp_state, completion}
+use Rattle.pic_machine.specs.Completing.{completion, outcome_by}
 use Rattle.script_tree.specs.Tree.{Tree}
 use Rattle.pic_report.specs.Report.{comp_line, declared_names, joined}
 use Rattle.pic_report.specs.View.{all_entries, told_lines}
@@ -20,7 +20,7 @@ returns-in_err-put_comp g c =
     let within : i < length c.in_ok-found.found.items = omega (arith, ap (λ (ks : List (Option Completion)). length ks) c.deref-by-items.ensures.value) in
     let by : get_or c.deref-by-items.result.now i None ≡ completion es i = ap (λ (ks : List (Option Completion)). get_or ks i None) c.deref-by-items.ensures.value ∙ c.in_ok-found.ensures.each i (omega (arith, within, c.in_ok-found.ensures.count)) in
     rw (p.1, p.2)
-    (puts_then (comp_line names i (completion es i) (comp_state (completion es i))) (joined (told_lines names es (i + 1) (count - (i + 1)))) c.in_err-put_comp.field-0.0 c.loop-number.invariant (told_from names es i count (omega (arith, within, size)))
+    (puts_then (comp_line names i (completion es i) (outcome_by (completion es i))) (joined (told_lines names es (i + 1) (count - (i + 1)))) c.in_err-put_comp.field-0.0 c.loop-number.invariant (told_from names es i count (omega (arith, within, size)))
     (rw by at c.in_err-put_comp.ensures))
 
 pub loop-number-preserved : goal.loop-number-preserved
@@ -32,5 +32,5 @@ loop-number-preserved g c =
     let size : length c.in_ok-found.found.items ≡ count = omega (arith, c.in_ok-found.ensures.count, c.len.ensures, c.program.inside.decls.ok.0, ap (λ (t : Tree). length t.decls) c.program.view_is) in
     let within : i < length c.in_ok-found.found.items = omega (arith, ap (λ (ks : List (Option Completion)). length ks) c.deref-by-items.ensures.value) in
     let by : get_or c.deref-by-items.result.now i None ≡ completion es i = ap (λ (ks : List (Option Completion)). get_or ks i None) c.deref-by-items.ensures.value ∙ c.in_ok-found.ensures.each i (omega (arith, within, c.in_ok-found.ensures.count)) in
-    puts_on (comp_line names i (completion es i) (comp_state (completion es i))) (joined (told_lines names es (i + 1) (count - (i + 1)))) c.loop-number.invariant (told_from names es i count (omega (arith, within, size)))
+    puts_on (comp_line names i (completion es i) (outcome_by (completion es i))) (joined (told_lines names es (i + 1) (count - (i + 1)))) c.loop-number.invariant (told_from names es i count (omega (arith, within, size)))
     (rw by at c.in_ok-put_comp.ensures)

@@ -13,8 +13,8 @@ returns-in_err-put_state g c =
     let names = text_names c.args.program.now in
     let view = c.args.fiber.now in
     let line = fiber_line (text_name names view.text) c.args.number view.state in
-    let says = joined (says_of view.entries.items) in
-    let logs = joined (log_lines names c.args.log view.entries.items) in
+    let says = joined (says_of view.entries.entries) in
+    let logs = joined (log_lines names c.args.log view.entries.entries) in
     rw (p.1, p.2)
     (puts_then line (says ++ logs) c.in_err-put_state.field-0.0 (put_none (g.K.Sink.taken c.args.out.now) (g.K.Sink.fault_count c.args.out.now) (joined (viewed_lines names c.args.log c.args.number view)))
     (viewed_parts names c.args.log c.args.number view) (rw c.text_name-name.ensures at c.in_err-put_state.ensures))
@@ -25,24 +25,24 @@ returns-in_err-put_says g c =
     let names = text_names c.args.program.now in
     let view = c.args.fiber.now in
     let line = fiber_line (text_name names view.text) c.args.number view.state in
-    let says = joined (says_of view.entries.items) in
-    let logs = joined (log_lines names c.args.log view.entries.items) in
+    let says = joined (says_of view.entries.entries) in
+    let logs = joined (log_lines names c.args.log view.entries.entries) in
     rw (p.1, p.2)
     (puts_then says logs c.in_err-put_says.field-0.0
     (puts_on line (says ++ logs) (put_none (g.K.Sink.taken c.args.out.now) (g.K.Sink.fault_count c.args.out.now) (joined (viewed_lines names c.args.log c.args.number view)))
     (viewed_parts names c.args.log c.args.number view) (rw c.text_name-name.ensures at c.in_ok-put_state.ensures))
-    refl (rw c.as_slice.ensures.value at c.in_err-put_says.ensures))
+    refl c.in_err-put_says.ensures)
 
 pub returns : goal.returns
 returns g c =
     let names = text_names c.args.program.now in
     let view = c.args.fiber.now in
     let line = fiber_line (text_name names view.text) c.args.number view.state in
-    let says = joined (says_of view.entries.items) in
-    let logs = joined (log_lines names c.args.log view.entries.items) in
+    let says = joined (says_of view.entries.entries) in
+    let logs = joined (log_lines names c.args.log view.entries.entries) in
     puts_last c.put_log.result
     (puts_on says logs
     (puts_on line (says ++ logs) (put_none (g.K.Sink.taken c.args.out.now) (g.K.Sink.fault_count c.args.out.now) (joined (viewed_lines names c.args.log c.args.number view)))
     (viewed_parts names c.args.log c.args.number view) (rw c.text_name-name.ensures at c.in_ok-put_state.ensures))
-    refl (rw c.as_slice.ensures.value at c.in_ok-put_says.ensures))
-    (rw c.as_slice-2.ensures.value at c.put_log.ensures)
+    refl c.in_ok-put_says.ensures)
+    c.put_log.ensures

@@ -1,7 +1,6 @@
 use Rattle.std.proofs.Common.{refl, ap, ◌∙◌}
 use Rattle.std.specs.Arc.{arc_value}
-use Rattle.fiber_body.specs.Starts.{start_of}
-use Rattle.pic_run.specs.Limits.{limits}
+use Rattle.pic_run.specs.Run.{origin}
 use Rattle.pic_run.specs.declared.report.Report.{Report}
 use Rattle.pic_run.specs.Status.{status_of}
 use Rattle.pic_run.proofs.Closing.{left_of_run, report_left, trace_of_stored}
@@ -10,10 +9,10 @@ use Rattle.pic_run.proofs.report.report_of.Goals as goal
 pub returns : goal.returns
 returns c =
     let script = arc_value c.args.program in
-    let start = start_of script limits in
     let history = c.args.port.front in
+    let share = c.args.port.main.program in
     let left = left_of_run script c.args.port c.in-Ok.closed c.requires c.in-Ok.ensures.left in
     let trace = trace_of_stored history c.args.trace c.in-Ok.history c.then_some-trace.result c.in-Ok.ensures.history c.then_some-trace.ensures in
     let made : Report = record { program = c.args.program; view = c.in_ok-view.view; status = c.status_of-status.result } in
-    report_left script c.args.port c.in-Ok.closed c.requires c.in-Ok.ensures.left c.args.trace c.args.log made refl (c.in_ok-view.ensures.view start history c.args.trace left trace)
-    (c.in_ok-view.ensures.text script start history c.args.trace refl left trace) (c.status_of-status.ensures ∙ ap status_of c.main_state.ensures)
+    report_left script c.args.port c.in-Ok.closed c.requires c.in-Ok.ensures.left c.args.trace c.args.log made refl (c.in_ok-view.ensures.view (origin script) share history c.args.trace left trace)
+    (c.in_ok-view.ensures.text script (origin script) share history c.args.trace refl left trace) (c.status_of-status.ensures ∙ ap status_of c.main_state.ensures)

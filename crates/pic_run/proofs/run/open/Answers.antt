@@ -7,7 +7,8 @@ pub open-requires-clause-start : goal.open-requires-clause-start
 open-requires-clause-start c = can_start c.deref.result.now c.start_of-start.result c.start_of-start.ensures.is c.start_of-start.ensures.few
 
 pub open-requires-clause-main : goal.open-requires-clause-main
-open-requires-clause-main c = new_main _ _ _ c.in_ok-main.ensures c.start_of-start.result refl
+open-requires-clause-main c =
+    new_main _ _ _ c.in_ok-main.ensures c.start_of-start.result (can_start c.deref.result.now c.start_of-start.result c.start_of-start.ensures.is c.start_of-start.ensures.few) refl
 
 pub open-requires-clause-clock : goal.open-requires-clause-clock
 open-requires-clause-clock c = new_clock _ _ _ c.in_ok-clock.ensures

@@ -1,5 +1,5 @@
 use Rattle.std.proofs.Common.{refl}
-use Rattle.port_plain.proofs.Lent.{lent_called, refused}
+use Rattle.port_plain.proofs.Lent.{lent_answered, refused}
 use Rattle.port_plain.proofs.plain.PlainPort.lend.Goals as goal
 
 pub returns-in_default-clause-none : goal.returns-in_default-clause-none
@@ -8,5 +8,5 @@ returns-in_default-clause-none g c =
 
 pub returns-clause-made : goal.returns-clause-made
 returns-clause-made g c =
-    lent_called g.B.Carried.seen c.args.self.now c.make.new.self c.fiber-fiber.result c.args.call c.in-Ok.reply c.in-Ok.ensures.made c.in-Ok.ensures.follows
+    lent_answered g.B.Carried.seen c.args.self.now c.make.new.self c.fiber-fiber.result c.args.call c.in-Ok.reply c.in-Ok.ensures.made c.in-Ok.ensures.follows
     (g.B.Carried.seen c.args.body.now) (g.B.Carried.seen c.note.new.self) c.requires.can.holds c.fiber-fiber.ensures c.requires.lent c.note.ensures.notes

@@ -16,6 +16,6 @@ returns-in-Err-default-Full-clause-none g c =
 pub returns-in-Err-default-Memory-clause-none : goal.returns-in-Err-default-Memory-clause-none
 returns-in-Err-default-Memory-clause-none g c = (
   refused g.B.Carried.seen c.args.self.now c.make_fiber.new.self (g.B.Carried.seen c.args.body.now)
-      (fork_none c.args.self.now c.make_fiber.new.self c.fiber-fiber.result (Fork c.args.text c.args.value) c.in-Err-default-Memory.field-0-1 c.in-Err-default-Memory.field-0-1-is c.in-Err-default-Memory.ensures.err) c.requires.can.holds,
+      (fork_none g.B.Carried.seen c.args.self.now c.make_fiber.new.self c.fiber-fiber.result (Fork c.args.text c.args.value) c.in-Err-default-Memory.field-0-1 c.in-Err-default-Memory.field-0-1-is c.in-Err-default-Memory.ensures.err) c.requires.can.holds,
   refl,
 )

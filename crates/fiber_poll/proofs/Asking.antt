@@ -1,0 +1,218 @@
+-- Statements that ask for one call: which one, and where its entry leads.
+use Rattle.std.specs.Prelude.{IsTrue}
+use Rattle.std.proofs.Common.{◌≡◌, ◌≢◌, ℕ, zero, suc, ◌+◌, ◌<◌, ◌≤◌, ◌==◌, Bool, false, slice_get, Option, Some, None, List, [], ◌∷◌, ◌++◌, length, refl, sym, ap, subst, ◌∙◌, arith}
+use Rattle.pic_machine.specs.declared.birth.Birth.{Birth}
+use Rattle.pic_machine.specs.declared.entry.Call.{Call}
+use Rattle.pic_machine.specs.declared.entry.Call.TheVariants as asked
+use Rattle.pic_machine.specs.declared.entry.Reply.{Reply}
+use Rattle.pic_machine.specs.declared.entry.Reply.TheVariants.{Completed, Full, Peeked}
+use Rattle.pic_machine.specs.Happened.{Happened}
+use Rattle.pic_machine.specs.Log.{is_turn, log, own}
+use Rattle.pic_machine.specs.Order.{GoesOn}
+use Rattle.pic_machine.specs.Sight.{Notes, Sight, fiber_of}
+use Rattle.script_tree.specs.declared.program.CompRef.{CompRef}
+use Rattle.script_tree.specs.declared.program.CompRef.TheVariants.{Root, Named, Promise as PromiseIn}
+use Rattle.script_tree.specs.declared.program.Decl.{Decl}
+use Rattle.script_tree.specs.declared.program.Kind.{Kind}
+use Rattle.script_tree.specs.declared.program.Kind.TheVariants.{Comp}
+use Rattle.script_tree.specs.declared.program.Stmt.{Stmt}
+use Rattle.script_tree.specs.declared.program.Stmt.TheVariants as stmt
+use Rattle.script_tree.specs.Tree.{Tree}
+use Rattle.script_tree.specs.WellFormed.{IsComp, IsOfSort, StmtFits}
+use Rattle.fiber_body.specs.declared.standing.Exit.{Exit}
+use Rattle.fiber_body.specs.declared.standing.Exit.TheVariants.{Next, Raised}
+use Rattle.fiber_body.specs.declared.standing.Standing.TheVariants.{At}
+use Rattle.fiber_body.specs.Around.{Leads, Outer, Place, at_stmt, rest, within}
+use Rattle.fiber_body.specs.Context.{Context, Setting, behind_decl, comp_in, comp_numbers, limit_met, stepped, with_register}
+use Rattle.fiber_body.specs.Fits.{LeadsTo, setting_of}
+use Rattle.fiber_body.specs.Follows.{context_of}
+use Rattle.fiber_body.specs.Framing.{ends_ahead, leads_entry}
+use Rattle.fiber_body.specs.Phases.{Phase, calls, ended, lives}
+use Rattle.fiber_body.specs.Segments.{happens}
+use Rattle.fiber_body.specs.Shown.{IsSameRest, Shown, carry_of}
+use Rattle.fiber_body.specs.Statements.{begins, born, call_of, first, on, or_first, outcome_number, replied, result, state_number, won}
+use Rattle.fiber_body.specs.Texts.{block_in, script_in}
+use Rattle.fiber_poll.specs.declared.spot.Spot.{Spot}
+use Rattle.fiber_poll.specs.Built.{is_built_comp, is_built_stmt}
+use Rattle.fiber_poll.specs.Polls.{IsPortOf}
+use Rattle.fiber_poll.specs.UnderWay.{CanAsk, CanRun, IsMade, IsOn, IsUp}
+use Rattle.fiber_poll.specs.Moving.{CostsStep, IsBefore, behind_at, taken, weight, weight_at}
+use Rattle.fiber_poll.proofs.Going.{on_lent, on_reserved, on_trans, program_up}
+use Rattle.fiber_poll.proofs.Moves.{behind, behind_live, costly, framed, stands_at}
+
+-- ---- how such a statement begins
+
+first_stepped : (c : Context) (one : Stmt) → first c one ≡ calls one → first (stepped c) one ≡ calls one
+first_stepped c (stmt.If a test b then other) is = is
+first_stepped c _ is = is
+
+costs_call : (c : Context) (one : Stmt) → first c one ≡ calls one → CostsStep one
+costs_call c (stmt.Loop block) is = absurd cc
+costs_call c _ is = tt
+
+begins_call : (c : Context) (one : Stmt) → result c.registers c.cells one ≡ None → first c one ≡ calls one → begins (stepped c) one ≡ calls one
+begins_call c one none is = ap (or_first (stepped c) one) none ∙ first_stepped c one is
+
+born_stepped : (c : Context) (call : Call) → born (stepped c) call ≡ born c call
+born_stepped c (asked.Fork text v) = refl
+born_stepped c _ = refl
+
+-- ---- how a reply ends it
+
+pub record EndsBy (c : Context) (p : Phase) : Type 0 where
+  pub exit : Exit
+  pub context : Context
+  pub is : p ≡ ended exit context
+  pub steps : context.steps ≡ c.steps
+
+pub ends_by_reply : (c : Context) (one : Stmt) (reply : Reply) → EndsBy c (replied c one reply)
+ends_by_reply c (stmt.Return r comp v) (Completed how) = record { exit = Next; context = with_register c r (won how); is = refl; steps = refl }
+ends_by_reply c (stmt.Cancel r comp v) (Completed how) = record { exit = Next; context = with_register c r (won how); is = refl; steps = refl }
+ends_by_reply c (stmt.Peek r q comp) (Peeked seen) = record { exit = Next; context = with_register (with_register c r (state_number seen)) q (outcome_number seen); is = refl; steps = refl }
+ends_by_reply c (stmt.Spawn text v) Full = record { exit = Raised limit_met; context = c; is = refl; steps = refl }
+ends_by_reply c _ _ = record { exit = Next; context = c; is = refl; steps = refl }
+
+-- the body behind it
+abbrev left_by : Shown → Spot → Exit → Context → Shown
+left_by body spot exit c = record body { standing = behind_at spot exit; context = c }
+
+taken_is : (b : Shown) (spot : Spot) (c : Context) (p : Phase) (e : EndsBy c p) → taken b spot p ≡ left_by b spot e.exit e.context
+taken_is b spot c p e = ap (taken b spot) e.is
+
+behind_weight : (spot : Spot) (x : Exit) → weight_at (behind_at spot x) ≤ 2
+behind_weight spot Next = omega arith
+behind_weight spot x = omega arith
+
+pub taken_lighter : (b : Shown) (spot : Spot) (one : Stmt) (reply : Reply) → b.standing ≡ At spot.block spot.place → 0 < b.context.steps → weight (taken b spot (replied (stepped b.context) one reply)) < weight b
+taken_lighter b spot one reply at some =
+    let e = ends_by_reply (stepped b.context) one reply in
+    let there : weight (taken b spot (replied (stepped b.context) one reply)) ≡ weight (left_by b spot e.exit e.context) = ap weight (taken_is b spot (stepped b.context) (replied (stepped b.context) one reply) e) in
+    let before : weight_at b.standing ≡ 2 = ap weight_at at in
+    let light = behind_weight spot e.exit in
+    omega (arith, there, before, light, e.steps, some)
+
+-- ---- where its entry leads
+
+module _ (a : Shown) (f : ℕ) (spot : Spot) (one : Stmt) (call : Call) (reply : Reply) (mine : List Happened) where
+  abbrev s : Setting
+  s = setting_of a f
+
+  abbrev c : Context
+  c = stepped a.context
+
+  abbrev outer : List Outer
+  outer = rest spot.block (spot.place + 1) ∷ framed a.frames
+
+  abbrev LeadsThere : List Happened → Place → List Outer → Context → Type 0
+  LeadsThere = Leads s (lives (block_in a.program a.birth.text)) (context_of a.birth)
+
+  -- the log leads to where the statement asks for its call
+  led_within : IsBefore a spot one → result a.context.registers a.context.cells one ≡ None → first a.context one ≡ calls one → LeadsTo a f mine → LeadsThere mine (within (calls one)) outer c
+  led_within before none is leads =
+      let there : LeadsThere mine (at_stmt spot.block spot.place) (framed a.frames) a.context = subst (λ (x : Shown). LeadsTo x f mine) (stands_at a (At spot.block spot.place) before.here.at) leads in
+      subst (λ (p : Phase). LeadsThere mine (within p) outer c) (begins_call a.context one none is)
+      (λ tail y e ahead. there tail y e (costly s spot a.frames one a.context (costs_call a.context one is) before.here.is before.steps tail y e ahead))
+
+  -- and with the call's entry to where the reply leads
+  pub leads_asked : IsBefore a spot one → result a.context.registers a.context.cells one ≡ None → first a.context one ≡ calls one
+      → call_of (comp_numbers 1 (script_in a.program).decls) c one ≡ Some call → LeadsTo a f mine
+      → LeadsTo (left_by a spot (ends_by_reply c one reply).exit (ends_by_reply c one reply).context) f (mine ++ happens f call reply (born a.context call) ∷ [])
+  leads_asked before none is asks leads =
+      let p : Phase = replied c one reply in
+      let e = ends_by_reply c one reply in
+      let log : List Happened = mine ++ happens f call reply (born a.context call) ∷ [] in
+      let made : LeadsThere log (within p) outer c =
+      subst (λ (o : Option Birth). LeadsThere (mine ++ happens f call reply o ∷ []) (within p) outer c) (born_stepped a.context call)
+      (leads_entry s (lives (block_in a.program a.birth.text)) (context_of a.birth) mine outer call reply asks refl (led_within before none is leads)) in
+      let over : LeadsThere log (within (ended e.exit e.context)) outer c = subst (λ (q : Phase). LeadsThere log (within q) outer c) e.is made in
+      λ tail y d ahead. over tail y d (ends_ahead s outer refl tail y d (behind s spot a.frames e.exit e.context tail y d ahead))
+
+-- ---- calls that a statement asks for, and behind which its turn goes on
+
+behind_one : (n : ℕ) (k : Kind) → behind_decl n k ≤ n + 1
+behind_one n Comp = omega arith
+behind_one n _ = omega arith
+
+numbered : (n : ℕ) (ds : List Decl) (place : ℕ) → place < length ds → (k : ℕ) × (slice_get (comp_numbers n ds) place ≡ Some k) × (k < n + length ds)
+numbered n [] place less = absurd (omega (arith, less))
+numbered n (d ∷ ds) zero less = (n, refl, omega arith)
+numbered n (d ∷ ds) (suc place) less =
+    let later = numbered (behind_decl n d.kind) ds place (omega (arith, less)) in
+    let one = behind_one n d.kind in
+    (later.0, later.1, omega (arith, later.2, one))
+
+is_there : (decls : List Decl) (place : ℕ) (fits : ℕ → Bool) → IsOfSort fits (slice_get decls place) → place < length decls
+is_there [] place fits is = absurd is
+is_there (d ∷ ds) zero fits is = omega arith
+is_there (d ∷ ds) (suc place) fits is = let later = is_there ds place fits is in omega (arith, later)
+
+comp_there : (tree : Tree) (comp : CompRef) → IsComp tree comp → IsTrue (is_built_comp comp) → (k : ℕ) × (comp_in (comp_numbers 1 tree.decls) comp ≡ Some k) × (k ≤ length tree.decls)
+comp_there tree Root is built = (0, refl, omega arith)
+comp_there tree (Named place) is built = let found = numbered 1 tree.decls place (is_there tree.decls place (λ s. s == 1) is) in (found.0, found.1, omega (arith, found.2))
+comp_there tree (PromiseIn register) is built = absurd cc
+
+-- the call, if there is one, may be made
+abbrev IsAsked : Tree → Option Call → Type 0
+IsAsked tree None = ⊥
+IsAsked tree (Some call) = CanAsk tree call
+
+module _ (tree : Tree) (c : Context) where
+  named : (comp : CompRef) (call : ℕ → Call) → ((k : ℕ) → k ≤ length tree.decls → CanAsk tree (call k)) → IsComp tree comp → IsTrue (is_built_comp comp) → IsAsked tree (on (comp_in (comp_numbers 1 tree.decls) comp) call)
+  named comp call can is built = let found = comp_there tree comp is built in subst (λ (o : Option ℕ). IsAsked tree (on o call)) (sym found.1) (can found.0 found.2)
+
+  asks_by : (holder : ℕ) (one : Stmt) → StmtFits tree holder one → IsTrue (is_built_stmt one) → result c.registers c.cells one ≡ None → first c one ≡ calls one → one ≢ stmt.Yield
+      → IsAsked tree (call_of (comp_numbers 1 tree.decls) (stepped c) one)
+  asks_by holder stmt.Yield fits built none is apart = absurd (apart refl)
+  asks_by holder _ fits built none is apart = first_of (search (named, fits, built), cc)
+
+  module _ (numbers : List ℕ) (counted : numbers ≡ comp_numbers 1 tree.decls) (one : Stmt) (can : CanRun tree one) (none : result c.registers c.cells one ≡ None) (is : first c one ≡ calls one) (apart : one ≢ stmt.Yield) where
+    asked_one : (found : Option Call) → call_of numbers (stepped c) one ≡ found → IsAsked tree found
+    asked_one found same = subst (IsAsked tree) (ap (λ (ns : List ℕ). call_of ns (stepped c) one) (sym counted) ∙ same) (asks_by can.holder one can.fits can.built none is apart)
+
+    -- the statement asks for a call
+    pub asks_some : call_of numbers (stepped c) one ≢ None
+    asks_some same = asked_one None same
+
+    -- which may be made
+    pub can_ask : (call : Call) → call_of numbers (stepped c) one ≡ Some call → CanAsk tree call
+    can_ask call same = asked_one (Some call) same
+
+-- such a call ends no turn, and begins none
+goes_on_by : (tree : Tree) (f : ℕ) (call : Call) (reply : Reply) (birth : Option Birth) → CanAsk tree call → GoesOn (happens f call reply birth) × (is_turn call ≡ false)
+goes_on_by tree f (asked.Say v) reply birth can = (refl, refl)
+goes_on_by tree f (asked.Peek comp) reply birth can = (refl, refl)
+goes_on_by tree f (asked.Complete comp outcome) reply birth can = (refl, refl)
+goes_on_by tree f (asked.Fork text v) reply birth can = (refl, refl)
+goes_on_by tree f _ reply birth can = absurd can
+
+-- room was made for the entry, and it was made, and the reply has ended the statement
+module _ (p q : Sight (Option Tree)) (before now : Option (List ℕ)) (tree : Tree) (spot : Spot) (one : Stmt) (call : Call) (reply : Reply) (can : CanAsk tree call) where
+  on_made : (a b : Shown) → IsUp p a → IsBefore a spot one → result a.context.registers a.context.cells one ≡ None → first a.context one ≡ calls one
+      → call_of (comp_numbers 1 (script_in a.program).decls) (stepped a.context) one ≡ Some call → IsMade p q a b before now call reply
+      → IsOn p q a (taken b spot (replied (stepped b.context) one reply)) before now
+  on_made a b up here none is asks made =
+      let f = fiber_of (carry_of a) in
+      let h = happens f call reply (born a.context call) in
+      let e = ends_by_reply (stepped a.context) one reply in
+      let goes = goes_on_by tree f call reply (born a.context call) can in
+      let there : taken b spot (replied (stepped b.context) one reply) ≡ left_by b spot e.exit e.context =
+      ap (λ (c : Context). taken b spot (replied (stepped c) one reply)) made.rest.context ∙ taken_is b spot (stepped a.context) (replied (stepped a.context) one reply) e in
+      let same : left_by b spot e.exit e.context ≡ record (left_by a spot e.exit e.context) { number = b.number; noted = b.noted; room = b.room } = rw (made.rest.frames, made.lent.birth, made.lent.share) refl in
+      subst (λ (d : Shown). IsOn p q a d before now) (sym there)
+      (on_lent p q a (left_by b spot e.exit e.context) before now h up made.lent refl goes.1 refl goes.0 made.line
+      (subst (λ (d : Shown). LeadsTo d f (own (log p.front f) ++ h ∷ [])) (sym same) (leads_asked a f spot one call reply (own (log p.front f)) here none is asks up.leads))
+      (behind_live spot e.exit))
+
+  pub on_called : (a b d : Shown) (numbers : List ℕ) → numbers ≡ comp_numbers 1 tree.decls → IsPortOf tree p → IsUp p a → IsBefore a spot one → result a.context.registers a.context.cells one ≡ None → first a.context one ≡ calls one
+      → call_of numbers (stepped a.context) one ≡ Some call → Notes (carry_of a) (carry_of b) [] → IsSameRest a b → IsMade p q b d before now call reply
+      → IsOn p q a (taken d spot (replied (stepped d.context) one reply)) before now
+  on_called a b d numbers counted of up here none is asks notes same_rest made =
+      let on : IsOn p p a b before before = on_reserved up notes same_rest in
+      let program : tree ≡ script_in b.program = sym (ap script_in (program_up tree p b of on.up)) in
+      let there : b ≡ record a { number = b.number; noted = b.noted; room = b.room } = rw (same_rest.context, same_rest.standing, same_rest.frames, notes.birth, notes.share) refl in
+      let same = sym same_rest.context in
+      on_trans on
+      (on_made b d on.up (subst (λ (z : Shown). IsBefore z spot one) (sym there) (record { here = record { at = here.here.at; is = here.here.is; within = here.here.within }; steps = here.steps }))
+      (subst (λ (c : Context). result c.registers c.cells one ≡ None) same none) (subst (λ (c : Context). first c one ≡ calls one) same is)
+      (subst (λ (t : Tree). call_of (comp_numbers 1 t.decls) (stepped b.context) one ≡ Some call) program
+      (subst (λ (c : Context). call_of (comp_numbers 1 tree.decls) (stepped c) one ≡ Some call) same (ap (λ (ns : List ℕ). call_of ns (stepped a.context) one) (sym counted) ∙ asks))) made)

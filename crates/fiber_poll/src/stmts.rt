@@ -1,6 +1,7 @@
 //! Statements that don't come to their end at once: those with a block, and those with a call.
-ghost use Rattle.std.specs.Prelude.{◌≡◌, ◌≢◌, ◌<◌, None, IfErr, IfOk, OnErr, OnOk};
+ghost use Rattle.std.specs.Prelude.{◌≡◌, ◌≢◌, ◌<◌, [], None, IfErr, IfOk, OnErr, OnOk};
 ghost use Rattle.std.specs.Bool.{OnFalse, OnTrue};
+ghost use Rattle.pic_machine.specs.Duty.{BringsNone};
 ghost use Rattle.pic_machine.specs.Lending.{Calm, Faulted};
 ghost use Rattle.fiber_body.specs.Statements.{first, result as result_of};
 ghost use Rattle.fiber_body.specs.Phases.{calls};
@@ -14,9 +15,10 @@ use crate::calls::{call_of, take};
 use crate::making::make;
 use crate::poller::ScriptPoller;
 use crate::spot::Spot;
+use fiber_await::discharge;
 use fiber_body::{Body, Frame};
 use pic_base::Memory;
-use pic_machine::{Carried, Port, PortFault, ReadyLine};
+use pic_machine::{Call, Carried, Port, PortFault, ReadyLine};
 use script_tree::Stmt;
 
 /// Enters the block of a loop, or that of a statement with a handler. Answers false, and changes nothing,
@@ -49,7 +51,8 @@ pub(crate) fn enter_block(body: &mut Body, spot: Spot, stmt: &Stmt) -> Result<bo
     Ok(true)
 }
 
-/// Makes the call of a statement, which is no yield, and ends the statement by its reply.
+/// Makes the call of a statement, which is no yield, ends the statement by its reply, and fulfils what the
+/// fiber owes then.
 pub(crate) fn call<P: Port<Body = Body>, R: ReadyLine>(
     poller: &ScriptPoller,
     port: &mut P,
@@ -60,6 +63,7 @@ pub(crate) fn call<P: Port<Body = Body>, R: ReadyLine>(
 ) -> Result<(), PortFault>
     requires port_of { IsPortOf poller.now (P.sight port.old) }
     requires up { IsUp (P.sight port.old) body.old }
+    requires free { body.old.owes ≡ [] }
     requires before { IsBefore body.old spot stmt.now }
     requires not_done { result_of body.old.context.registers body.old.context.cells stmt.now ≡ None }
     requires calls { first body.old.context stmt.now ≡ calls stmt.now }
@@ -67,6 +71,7 @@ pub(crate) fn call<P: Port<Body = Body>, R: ReadyLine>(
     requires can { CanRun poller.now stmt.now }
     ensures on { IsOn (P.sight port.old) (P.sight port.new) body.old body.new (R.told line.old) (R.told line.new) }
     ensures lighter { OnOk result (weight body.new < weight body.old) }
+    ensures free { OnOk result (body.new.owes ≡ []) }
     ensures calm { OnOk result (Calm (P.sight port.old) (P.sight port.new)) }
     ensures gave_up { IfErr result (λ fault. Faulted fault (P.sight port.old) (P.sight port.new)) }
 {
@@ -78,5 +83,15 @@ pub(crate) fn call<P: Port<Body = Body>, R: ReadyLine>(
     }
     let reply = make(poller, port, line, body, call)?;
     take(body, spot, stmt, reply);
+    if brings_duties(call) {
+        discharge(port, line, body)?;
+    }
     Ok(())
+}
+
+/// Whether a fiber may owe something behind the call that owed nothing before it.
+fn brings_duties(call: Call) -> bool
+    ensures { OnFalse result (BringsNone call) }
+{
+    matches!(call, Call::Complete { .. })
 }

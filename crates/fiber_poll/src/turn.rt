@@ -1,5 +1,5 @@
 //! The part of a turn before its last call: statements, one by one.
-ghost use Rattle.std.specs.Prelude.{◌≡◌, ◌<◌, ℕ, Some, IfErr, IfOk, OnOk};
+ghost use Rattle.std.specs.Prelude.{◌≡◌, ◌<◌, ℕ, [], Some, IfErr, IfOk, OnOk};
 ghost use Rattle.pic_machine.specs.Lending.{Calm, Faulted};
 ghost use Rattle.fiber_poll.specs.Moving.{IsAt, IsWaiting};
 ghost use Rattle.fiber_poll.specs.Polls.{IsPortOf};
@@ -24,8 +24,10 @@ pub(crate) fn run_on<P: Port<Body = Body>, R: ReadyLine>(
 ) -> Result<Last, PortFault>
     requires port_of { IsPortOf poller.now (P.sight port.old) }
     requires up { IsUp (P.sight port.old) body.old }
+    requires free { body.old.owes ≡ [] }
     ensures on { IsOn (P.sight port.old) (P.sight port.new) body.old body.new (R.told line.old) (R.told line.new) }
     ensures last { IfOk result (λ last. IsLast body.new last) }
+    ensures free { OnOk result (body.new.owes ≡ []) }
     ensures calm { OnOk result (Calm (P.sight port.old) (P.sight port.new)) }
     ensures gave_up { IfErr result (λ fault. Faulted fault (P.sight port.old) (P.sight port.new)) }
 {
@@ -56,9 +58,11 @@ fn run_from<P: Port<Body = Body>, R: ReadyLine>(
 ) -> Result<Option<Last>, PortFault>
     requires port_of { IsPortOf poller.now (P.sight port.old) }
     requires up { IsUp (P.sight port.old) body.old }
+    requires free { body.old.owes ≡ [] }
     requires at { body.old.standing ≡ Standing.At block place }
     ensures on { IsOn (P.sight port.old) (P.sight port.new) body.old body.new (R.told line.old) (R.told line.new) }
     ensures step { IfOk result (λ last. IsStep body.old body.new last) }
+    ensures free { OnOk result (body.new.owes ≡ []) }
     ensures calm { OnOk result (Calm (P.sight port.old) (P.sight port.new)) }
     ensures gave_up { IfErr result (λ fault. Faulted fault (P.sight port.old) (P.sight port.new)) }
 {
@@ -87,11 +91,13 @@ fn begin<P: Port<Body = Body>, R: ReadyLine>(
 ) -> Result<Option<Last>, PortFault>
     requires port_of { IsPortOf poller.now (P.sight port.old) }
     requires up { IsUp (P.sight port.old) body.old }
+    requires free { body.old.owes ≡ [] }
     requires at { IsAt body.old spot stmt.now }
     requires waits { 0 < body.old.context.steps → IsWaiting body.old.context stmt.now }
     requires can { CanRun poller.now stmt.now }
     ensures on { IsOn (P.sight port.old) (P.sight port.new) body.old body.new (R.told line.old) (R.told line.new) }
     ensures step { IfOk result (λ last. IsStep body.old body.new last) }
+    ensures free { OnOk result (body.new.owes ≡ []) }
     ensures calm { OnOk result (Calm (P.sight port.old) (P.sight port.new)) }
     ensures gave_up { IfErr result (λ fault. Faulted fault (P.sight port.old) (P.sight port.new)) }
 {

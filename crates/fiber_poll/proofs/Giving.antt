@@ -64,7 +64,7 @@ module _ {script : Tree} {port : Sight (Option Tree)} (of : IsPortOf script port
       let stands = current_stands port.origin port.front (fiber_of (carry_of body)) body.birth up.holds.legal of.main (up.holds.birth up.fiber) in
       record {
         unnumbered = new.number_is;
-        owes = refl;
+        owes = new.owes;
         same_text = ap (λ (b : Birth). b.text) new.birth_is;
         same_value = ap (λ (b : Birth). b.value) new.birth_is;
         stands = subst (λ (b : Birth). b.current < n) (sym new.birth_is) (subst (λ (k : ℕ). k < n) (sym same) stands);

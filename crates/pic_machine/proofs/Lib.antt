@@ -11,3 +11,4 @@ pub mod Onward
 pub mod Homes
 pub mod Owns
 pub mod Turns
+pub mod Freeing

@@ -13,7 +13,7 @@ use Rattle.pic_machine.specs.declared.entry.Reply.{Reply}
 use Rattle.pic_machine.specs.declared.entry.Reply.TheVariants.{Completed, Peeked}
 use Rattle.pic_machine.specs.Happened.{Happened}
 use Rattle.pic_machine.specs.State.{IsStart, State, owed_of}
-use Rattle.pic_machine.specs.Duty.{BringsNone, LeavesDuties, followed, fulfilled}
+use Rattle.pic_machine.specs.Duty.{LeavesDuties, followed, fulfilled}
 use Rattle.pic_machine.specs.Step.{completed, peeked, reply_of, with_signals}
 use Rattle.pic_machine.specs.History.{Follows, IsLegal, Origin, world}
 use Rattle.pic_machine.specs.Sight.{Carry, Sight, Holds, fiber_of}
@@ -81,10 +81,3 @@ module _ {S : Type 0} (before now : Carry S) (f : ℕ) where
   unasked_leaves (Complete c o) reply none leaves = absurd none
   unasked_leaves (Peek c) reply none leaves = absurd none
   unasked_leaves _ reply none leaves = leaves.left ∙ leaves.owed
-
-  -- and whoever owes nothing owes nothing behind a call that brings no duty
-  pub free_leaves : (call : Call) (reply : Reply) → BringsNone call → before.owes ≡ [] → Leaves before now f call reply → now.owes ≡ []
-  free_leaves (call.Signal t) reply brings none leaves = leaves.left ∙ ap fulfilled (leaves.owed ∙ none)
-  free_leaves (Complete c o) reply brings none leaves = absurd brings
-  free_leaves (Peek c) reply brings none leaves = leaves.left ∙ ap (λ (ds : List Duty). followed ds (slice_get leaves.at.comps c)) (leaves.owed ∙ none)
-  free_leaves _ reply brings none leaves = leaves.left ∙ (leaves.owed ∙ none)

@@ -12,3 +12,4 @@ pub mod Homes
 pub mod Owns
 pub mod Turns
 pub mod Freeing
+pub mod Lendings

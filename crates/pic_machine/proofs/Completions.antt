@@ -1,10 +1,10 @@
 -- A computation is completed once, by the one entry that tells so, which stands in the log of its fiber.
-use Rattle.std.proofs.Common.{◌≡◌, ◌≢◌, ℕ, ◌-◌, ◌≤◌, ◌==◌, cond, inl, inr, Bool, true, false, Option, Some, None, List, [], ◌∷◌, length, slice_get, refl, sym, ap, subst, ◌∙◌, arith}
-use Rattle.std.proofs.lemmas.Bool.Decides.{nat_tests}
+use Rattle.std.proofs.Common.{◌≡◌, ◌≢◌, ◌⊎◌, ℕ, ◌-◌, ◌≤◌, ◌==◌, cond, eqb, inl, inr, Bool, true, false, Option, Some, None, List, [], ◌∷◌, ◌++◌, length, slice_get, refl, sym, ap, subst, ◌∙◌, arith}
+use Rattle.std.proofs.lemmas.Bool.Decides.{eqb_tells, nat_tests}
 use Rattle.std.proofs.lemmas.Option.{slice_get_within}
 use Rattle.pic_base.specs.declared.outcome.Outcome.{Outcome}
 use Rattle.pic_machine.specs.declared.entry.Call.{Call}
-use Rattle.pic_machine.specs.declared.entry.Call.TheVariants.{Complete}
+use Rattle.pic_machine.specs.declared.entry.Call.TheVariants.{Attach, Complete}
 use Rattle.pic_machine.specs.declared.entry.CompleteReply.TheVariants.{Won}
 use Rattle.pic_machine.specs.Happened.{Happened}
 use Rattle.pic_machine.specs.declared.entry.Reply.{Reply}
@@ -15,12 +15,13 @@ use Rattle.pic_machine.specs.declared.state.Completion.{Completion}
 use Rattle.pic_machine.specs.declared.state.FiberState.TheVariants.{Live}
 use Rattle.pic_machine.specs.Completing.{completion, completion_at, first_of, outcome_by, outcome_of}
 use Rattle.pic_machine.specs.State.{State}
-use Rattle.pic_machine.specs.Step.{MayAct, after, comps_after, completed, reply_of, with_outcome}
+use Rattle.pic_machine.specs.Step.{MayAct, after, comps_after, completed, reply_of, with_attached, with_outcome}
 use Rattle.pic_machine.specs.History.{Origin, IsLegal, world, world_from}
 use Rattle.pic_machine.specs.Log.{entries, is_hidden, is_logged, is_turn, is_visible, log, visible}
 use Rattle.pic_machine.proofs.Fates.{AreSteps, IsStep, steps}
 use Rattle.pic_machine.proofs.Fresh.{fibers_grow}
-use Rattle.pic_machine.proofs.Steps.{fibers_stay, slice_get-set_other, slice_get-set_same}
+use Rattle.pic_machine.proofs.Lists.{slice_get-set_other, slice_get-set_same}
+use Rattle.pic_machine.proofs.Steps.{fibers_stay}
 
 -- how the entry completed the computation c
 abbrev told_by : ℕ → Happened → Option Completion
@@ -36,7 +37,7 @@ pub record StandsAt (comps : List CompState) (c : ℕ) (outcome : Option Outcome
 
 -- a completion leaves the others as they were
 outcome_other : (comps : List CompState) (d c : ℕ) (o : Outcome) (s : Option CompState) → c ≢ d → slice_get (with_outcome comps d o s) c ≡ slice_get comps c
-outcome_other comps d c o (Some Running) other = slice_get-set_other comps d c (Done o) other
+outcome_other comps d c o (Some (Running triggers)) other = slice_get-set_other comps d c (Done o) other
 outcome_other comps d c o _ other = refl
 
 -- and isn't told of them
@@ -47,12 +48,34 @@ told_other g d c o _ other = rw other refl
 stands_other : (comps : List CompState) (d c : ℕ) (o : Outcome) (s : Option CompState) (outcome : Option Outcome) → c ≢ d → StandsAt comps c outcome → StandsAt (with_outcome comps d o s) c outcome
 stands_other comps d c o s outcome other stands = record { state = stands.state; there = outcome_other comps d c o s other ∙ stands.there; is = stands.is }
 
+-- so does an attachment: what is attached to a computation leaves it running
+attached_other : (comps : List CompState) (d c t : ℕ) (s : Option CompState) → c ≢ d → slice_get (with_attached comps d t s) c ≡ slice_get comps c
+attached_other comps d c t (Some (Running triggers)) other = slice_get-set_other comps d c (Running (triggers ++ t ∷ [])) other
+attached_other comps d c t _ other = refl
+
+attached_here : (comps : List CompState) (c t : ℕ) (state : CompState) → slice_get comps c ≡ Some state → StandsAt (with_attached comps c t (Some state)) c (outcome_of state)
+attached_here comps c t (Running triggers) there = record {
+  state = Running (triggers ++ t ∷ []);
+  there = slice_get-set_same comps c (Running (triggers ++ t ∷ [])) (slice_get_within comps c (Running triggers) there);
+  is = refl;
+}
+attached_here comps c t (Done o) there = record { state = Done o; there = there; is = refl }
+
+stands_attached : (comps : List CompState) (d t c : ℕ) (outcome : Option Outcome) → StandsAt comps c outcome → StandsAt (with_attached comps d t (slice_get comps d)) c outcome
+stands_attached comps d t c outcome stands = at (eqb_tells c d) where
+  at : ((eqb c d ≡ true) × (c ≡ d)) ⊎ ((eqb c d ≡ false) × (c ≢ d)) → StandsAt (with_attached comps d t (slice_get comps d)) c outcome
+  at (inl same) =
+      subst (λ (e : ℕ). StandsAt (with_attached comps e t (slice_get comps e)) c outcome) same.1
+      (subst (λ (s : Option CompState). StandsAt (with_attached comps c t s) c outcome) (sym stands.there)
+      (subst (StandsAt (with_attached comps c t (Some stands.state)) c) stands.is (attached_here comps c t stands.state stands.there)))
+  at (inr other) = record { state = stands.state; there = attached_other comps d c t (slice_get comps d) other.1 ∙ stands.there; is = stands.is }
+
 -- what a completion makes of a computation without an outcome is what is told of it
 runs_here : (comps : List CompState) (g c : ℕ) (o : Outcome) (state : CompState) → slice_get comps c ≡ Some state → outcome_of state ≡ None
     → StandsAt (with_outcome comps c o (Some state)) c (outcome_by (completion_at c g (Complete c o) (completed (Some state))))
-runs_here comps g c o Running there none =
+runs_here comps g c o (Running triggers) there none =
     let same : (c == c) ≡ true = grind (arith, nat_tests) in
-    record { state = Done o; there = slice_get-set_same comps c (Done o) (slice_get_within comps c Running there); is = rw same refl }
+    record { state = Done o; there = slice_get-set_same comps c (Done o) (slice_get_within comps c (Running triggers) there); is = rw same refl }
 runs_here comps g c o (Done x) there none = absurd cc
 
 runs_complete : (w : State) (g d : ℕ) (o : Outcome) (c : ℕ) (b : Bool) → (d == c) ≡ b → StandsAt w.comps c None
@@ -69,16 +92,17 @@ runs_complete w g d o c false other stands =
     (stands_other w.comps d c o (slice_get w.comps d) None apart stands)
 
 runs_after : (w : State) (g : ℕ) (call : Call) (c : ℕ) → StandsAt w.comps c None → StandsAt (comps_after w call) c (outcome_by (completion_at c g call (reply_of w g call)))
+runs_after w g (Attach p d t) c stands = stands_attached w.comps d t c None stands
 runs_after w g (Complete d o) c stands = runs_complete w g d o c (d == c) refl stands
 runs_after w g _ c stands = stands
 
 -- a completed computation stays as it is, and nothing more is told of it
-record Stays (w : State) (g : ℕ) (call : Call) (c : ℕ) (o : Outcome) : Type 0 where
-  state : StandsAt (comps_after w call) c (Some o)
-  untold : completion_at c g call (reply_of w g call) ≡ None
+pub record Stays (w : State) (g : ℕ) (call : Call) (c : ℕ) (o : Outcome) : Type 0 where
+  pub state : StandsAt (comps_after w call) c (Some o)
+  pub untold : completion_at c g call (reply_of w g call) ≡ None
 
 done_here : (comps : List CompState) (c : ℕ) (x : Outcome) (o : Outcome) (state : CompState) → outcome_of state ≡ Some o → (with_outcome comps c x (Some state) ≡ comps) × ((g : ℕ) → completion_at c g (Complete c x) (completed (Some state)) ≡ None)
-done_here comps c x o Running is = absurd cc
+done_here comps c x o (Running triggers) is = absurd cc
 done_here comps c x o (Done y) is = (refl, λ g. refl)
 
 done_complete : (w : State) (g d : ℕ) (x : Outcome) (c : ℕ) (o : Outcome) (b : Bool) → (d == c) ≡ b → StandsAt w.comps c (Some o) → Stays w g (Complete d x) c o
@@ -93,9 +117,21 @@ done_complete w g d x c o false other stands =
     let apart : c ≢ d = grind (arith, nat_tests, other) in
     record { state = stands_other w.comps d c x (slice_get w.comps d) (Some o) apart stands; untold = told_other g d c x (slice_get w.comps d) other }
 
-done_after : (w : State) (g : ℕ) (call : Call) (c : ℕ) (o : Outcome) → StandsAt w.comps c (Some o) → Stays w g call c o
+pub done_after : (w : State) (g : ℕ) (call : Call) (c : ℕ) (o : Outcome) → StandsAt w.comps c (Some o) → Stays w g call c o
+done_after w g (Attach p d t) c o stands = record { state = stands_attached w.comps d t c (Some o) stands; untold = refl }
 done_after w g (Complete d x) c o stands = done_complete w g d x c o (d == c) refl stands
 done_after w g _ c o stands = record { state = stands; untold = refl }
+
+-- a computation that has an outcome is done
+done_is : (comps : List CompState) (c : ℕ) (o : Outcome) (state : CompState) → slice_get comps c ≡ Some state → outcome_of state ≡ Some o → slice_get comps c ≡ Some (Done o)
+done_is comps c o (Running triggers) there is = absurd cc
+done_is comps c o (Done x) there is = there ∙ ap (λ (y : Outcome). Some (Done y)) (let same : x ≡ o = cc in same)
+
+pub is_done : (comps : List CompState) (c : ℕ) (o : Outcome) → StandsAt comps c (Some o) → slice_get comps c ≡ Some (Done o)
+is_done comps c o stands = done_is comps c o stands.state stands.there stands.is
+
+pub done_stays : (w : State) (f : ℕ) (call : Call) (c : ℕ) (o : Outcome) → slice_get w.comps c ≡ Some (Done o) → slice_get (after w f call).comps c ≡ Some (Done o)
+done_stays w f call c o is = is_done (comps_after w call) c o (done_after w f call c o (record { state = Done o; there = is; is = refl })).state
 
 -- ---- a history
 

@@ -1,20 +1,25 @@
 -- A fiber that has ended tells so by its log: the last entry there is its end.
-use Rattle.std.proofs.Common.{◌≡◌, ◌≢◌, ℕ, zero, suc, ◌+◌, ◌-◌, ◌==◌, inl, inr, Bool, true, false, Some, List, [], ◌∷◌, ◌++◌, slice_get, slice_set, refl, sym, ap, subst, ◌∙◌, append_assoc, arith}
-use Rattle.std.proofs.lemmas.Bool.Decides.{nat_tests}
+use Rattle.std.proofs.Common.{◌≡◌, ◌≢◌, ◌⊎◌, ℕ, zero, suc, ◌+◌, ◌-◌, inl, inr, Bool, true, false, Option, Some, List, [], ◌∷◌, ◌++◌, slice_get, slice_set, refl, sym, ap, subst, ◌∙◌, append_assoc, arith}
+use Rattle.pic_base.specs.declared.action.Action.{Action}
+use Rattle.pic_base.specs.declared.action.Action.TheVariants.{Resume}
 use Rattle.pic_base.specs.declared.outcome.Outcome.{Outcome}
 use Rattle.pic_machine.specs.declared.state.FiberState.{FiberState}
-use Rattle.pic_machine.specs.declared.state.FiberState.TheVariants.{Live, Ended}
+use Rattle.pic_machine.specs.declared.state.FiberState.TheVariants.{Live, Suspended, Ended}
+use Rattle.pic_machine.specs.declared.state.TrigState.{TrigState}
+use Rattle.pic_machine.specs.declared.state.TrigState.TheVariants.{Initial, Awaiting}
 use Rattle.pic_machine.specs.declared.entry.Call.{Call}
-use Rattle.pic_machine.specs.declared.entry.Call.TheVariants.{Fork, End}
+use Rattle.pic_machine.specs.declared.entry.Call.TheVariants as call
+use Rattle.pic_machine.specs.declared.entry.Call.TheVariants.{Arm, Fork, End}
 use Rattle.pic_machine.specs.Happened.{Happened}
 use Rattle.pic_machine.specs.State.{State}
-use Rattle.pic_machine.specs.Step.{Allowed, MayAct, after, fibers_after, grown, has_room, reply_of}
+use Rattle.pic_machine.specs.Step.{Allowed, MayAct, after, fibers_after, has_room, reply_of, resumed, waiting, with_waiting}
 use Rattle.pic_machine.specs.History.{Origin, IsLegal, world, world_from}
 use Rattle.pic_machine.specs.Log.{is_logged, is_turn, log}
 use Rattle.pic_machine.proofs.Histories.{world-push}
+use Rattle.pic_machine.proofs.Callers.{not_clock}
+use Rattle.pic_machine.proofs.Lists.{grown_less, read_set}
 use Rattle.pic_machine.proofs.Onward.{logged}
-use Rattle.pic_machine.proofs.Standing.{not_logged}
-use Rattle.pic_machine.proofs.Steps.{not_clock, slice_get-set_other}
+use Rattle.pic_machine.proofs.Staying.{not_logged}
 
 -- ---- entry by entry
 
@@ -28,7 +33,7 @@ abbrev pub AreSteps : State → List Happened → Type 0
 AreSteps w [] = Unit {0}
 AreSteps w (h ∷ hs) = IsStep w h × AreSteps (after w h.entry.fiber h.entry.call) hs
 
-steps_from : (origin : Origin) (front back : List Happened) → IsLegal origin (front ++ back) → AreSteps (world origin front) back
+pub steps_from : (origin : Origin) (front back : List Happened) → IsLegal origin (front ++ back) → AreSteps (world origin front) back
 steps_from origin front [] legal = tt
 steps_from origin front (h ∷ back) legal =
     let assoc : (front ++ h ∷ []) ++ back ≡ front ++ h ∷ back = append_assoc front (h ∷ []) back in
@@ -54,38 +59,43 @@ acts_not w g place o (inr live) ended = λ same.
     let both : Some Live ≡ Some (Ended o) = sym live.live ∙ (ap (λ (k : ℕ). slice_get w.fibers k) one ∙ ended) in
     absurd cc
 
-last_live : (fibers : List FiberState) (place : ℕ) (o : Outcome) → slice_get (fibers ++ Live ∷ []) place ≡ Some (Ended o) → slice_get fibers place ≡ Some (Ended o)
-last_live [] zero o is = absurd cc
-last_live [] (suc place) o is = absurd cc
-last_live (x ∷ xs) zero o is = is
-last_live (x ∷ xs) (suc place) o is = last_live xs place o is
+-- what was written somewhere and is no end ended nobody
+unended : (fibers : List FiberState) (at place : ℕ) (x : FiberState) (o : Outcome) → x ≢ Ended o → slice_get (slice_set fibers at x) place ≡ Some (Ended o) → slice_get fibers place ≡ Some (Ended o)
+unended fibers at place x o other is = one_on (read_set fibers at place x (Ended o) is) where
+  one_on : ((place ≡ at) × (x ≡ Ended o)) ⊎ ((place ≢ at) × (slice_get fibers place ≡ Some (Ended o))) → slice_get fibers place ≡ Some (Ended o)
+  one_on (inl mine) = absurd (other mine.1)
+  one_on (inr there) = there.1
 
-grown_ended : (b : Bool) (fibers : List FiberState) (place : ℕ) (o : Outcome) → slice_get (grown b fibers Live) place ≡ Some (Ended o) → slice_get fibers place ≡ Some (Ended o)
-grown_ended true fibers place o is = last_live fibers place o is
-grown_ended false fibers place o is = is
+waits_none : (fibers : List FiberState) (g t : ℕ) (action : Action) (place : ℕ) (o : Outcome) → slice_get (waiting fibers g t action) place ≡ Some (Ended o) → slice_get fibers place ≡ Some (Ended o)
+waits_none fibers g t (Resume h) place o is = unended fibers (g - 1) place (Suspended t) o (λ same. cc) is
+
+suspends_none : (fibers : List FiberState) (g t : ℕ) (action : Action) (place : ℕ) (o : Outcome) (s : Option TrigState) → slice_get (with_waiting fibers g t action s) place ≡ Some (Ended o) → slice_get fibers place ≡ Some (Ended o)
+suspends_none fibers g t action place o (Some Initial) is = waits_none fibers g t action place o is
+suspends_none fibers g t action place o _ is = is
+
+resumes_none : (fibers : List FiberState) (place : ℕ) (o : Outcome) (s : Option TrigState) → slice_get (resumed fibers s) place ≡ Some (Ended o) → slice_get fibers place ≡ Some (Ended o)
+resumes_none fibers place o (Some (Awaiting (Resume h))) is = unended fibers (h - 1) place Live o (λ same. cc) is
+resumes_none fibers place o _ is = is
 
 -- another fiber's end, or this one's
-set_within : (fibers : List FiberState) (place : ℕ) (x s : FiberState) → slice_get (slice_set fibers place x) place ≡ Some s → x ≡ s
-set_within [] place x s is = absurd cc
-set_within (y ∷ ys) zero x s is = cc
-set_within (y ∷ ys) (suc place) x s is = set_within ys place x s is
-
-end_by : (w : State) (g : ℕ) (x : Outcome) (place : ℕ) (o : Outcome) (b : Bool) → (place == (g - 1)) ≡ b → g ≢ 0 → MayAct w g → slice_get (slice_set w.fibers (g - 1) (Ended x)) place ≡ Some (Ended o) → EndedBy w g (End x) place o
-end_by w g x place o true same fiber acts is =
-    let at : place ≡ g - 1 = grind (arith, nat_tests, same) in
-    let ended : Ended x ≡ Ended o = set_within w.fibers (g - 1) (Ended x) (Ended o) (subst (λ (k : ℕ). slice_get (slice_set w.fibers (g - 1) (Ended x)) k ≡ Some (Ended o)) at is) in
+end_by : (w : State) (g : ℕ) (x : Outcome) (place : ℕ) (o : Outcome) → g ≢ 0 → MayAct w g → ((place ≡ g - 1) × (Ended x ≡ Ended o)) ⊎ ((place ≢ g - 1) × (slice_get w.fibers place ≡ Some (Ended o))) → EndedBy w g (End x) place o
+end_by w g x place o fiber acts (inl mine) =
+    let ended : Ended x ≡ Ended o = mine.1 in
     let outcome : x ≡ o = cc in
-    here (omega (arith, at, fiber)) (ap End outcome)
-end_by w g x place o false apart fiber acts is =
-    let other : place ≢ g - 1 = grind (arith, nat_tests, apart) in
-    let was : slice_get w.fibers place ≡ Some (Ended o) = sym (slice_get-set_other w.fibers (g - 1) place (Ended x) other) ∙ is in
-    before was (acts_not w g place o acts was)
+    here (omega (arith, mine.0, fiber)) (ap End outcome)
+end_by w g x place o fiber acts (inr other) = before other.1 (acts_not w g place o acts other.1)
 
 ended_by : (w : State) (g : ℕ) (call : Call) (place : ℕ) (o : Outcome) → Allowed w g call → slice_get (fibers_after w g call) place ≡ Some (Ended o) → EndedBy w g call place o
-ended_by w g (Fork text value) place o allowed is =
-    let was = grown_ended (has_room w) w.fibers place o is in
+ended_by w g (Arm t action) place o allowed is =
+    let was = suspends_none w.fibers g t action place o (slice_get w.triggers t) is in
     before was (acts_not w g place o allowed.caller was)
-ended_by w g (End x) place o allowed is = end_by w g x place o (place == (g - 1)) refl (not_clock w g (End x) allowed tt) allowed.caller is
+ended_by w g (call.Signal t) place o allowed is =
+    let was = resumes_none w.fibers place o (slice_get w.triggers t) is in
+    before was (acts_not w g place o allowed.caller was)
+ended_by w g (Fork text value) place o allowed is =
+    let was = grown_less (has_room w) w.fibers Live place (Ended o) (λ same. cc) is in
+    before was (acts_not w g place o allowed.caller was)
+ended_by w g (End x) place o allowed is = end_by w g x place o (not_clock w g (End x) allowed tt) allowed.caller (read_set w.fibers (g - 1) place (Ended x) (Ended o) is)
 ended_by w g _ place o allowed is = before is (acts_not w g place o allowed.caller is)
 
 -- ---- the log

@@ -1,5 +1,5 @@
 -- A fiber is suspended at a trigger exactly where the trigger's signal will resume it: every call keeps this.
-use Rattle.std.proofs.Common.{◌≡◌, ◌≢◌, ◌⊎◌, ℕ, zero, suc, ◌-◌, ◌<◌, inl, inr, Bool, List, [], ◌∷◌, ◌++◌, Option, Some, None, replicate, slice_get, slice_set, refl, sym, ap, subst, ◌∙◌, append_assoc, append-nil, arith}
+use Rattle.std.proofs.Common.{◌≡◌, ◌≢◌, ◌⊎◌, ℕ, zero, suc, ◌-◌, ◌<◌, inl, inr, Bool, List, [], ◌∷◌, Option, Some, None, replicate, slice_get, slice_set, refl, sym, ap, subst, ◌∙◌, arith}
 use Rattle.std.proofs.lemmas.Option.{slice_get_within}
 use Rattle.pic_base.specs.declared.action.Action.TheVariants.{Resume}
 use Rattle.pic_base.specs.declared.outcome.Outcome.{Outcome}
@@ -13,13 +13,13 @@ use Rattle.pic_machine.specs.declared.entry.Call.TheVariants.{NewTrigger, Arm, F
 use Rattle.pic_machine.specs.declared.world.Start.{Start}
 use Rattle.pic_machine.specs.Happened.{Happened}
 use Rattle.pic_machine.specs.State.{State, world_at}
-use Rattle.pic_machine.specs.Step.{Allowed, IsLive, after, has_room}
+use Rattle.pic_machine.specs.Step.{Allowed, IsLive, after, fibers_after, grown, has_room, triggers_after}
 use Rattle.pic_machine.specs.History.{Origin, IsLegal, world}
 use Rattle.pic_machine.specs.Suspending.{IsTied}
 use Rattle.pic_machine.proofs.Callers.{caller_is_live}
-use Rattle.pic_machine.proofs.Histories.{world-push}
-use Rattle.pic_machine.proofs.Lists.{read_set, slice_get-one_less, slice_get-one_more, slice_get-set_other, slice_get-set_same}
-use Rattle.pic_machine.proofs.Parts.{fibers-after, fibers_by, one_more, triggers-after, triggers_by}
+use Rattle.pic_machine.proofs.Fates.{steps}
+use Rattle.pic_machine.proofs.Lasting.{lasts_from}
+use Rattle.pic_machine.proofs.Lists.{grown_get, grown_less, read_set, slice_get-set_other, slice_get-set_same}
 
 -- ---- the same of a list of triggers and one of fibers
 
@@ -41,17 +41,17 @@ one_fiber f g made there same = omega (arith, made, there, same)
 
 module _ (ts : List TrigState) (fs : List FiberState) (tied : Tied ts fs) where
   -- one trigger more
-  more_triggers : (room : Bool) → Tied (one_more room ts Initial) fs
+  more_triggers : (room : Bool) → Tied (grown room ts Initial) fs
   more_triggers room = record {
-    resumes = λ t f is. tied.resumes t f (slice_get-one_less room ts Initial (Awaiting (Resume f)) t (λ same. cc) is);
-    awaited = λ t f waits. slice_get-one_more room ts Initial (Awaiting (Resume f)) t (tied.awaited t f waits);
+    resumes = λ t f is. tied.resumes t f (grown_less room ts Initial t (Awaiting (Resume f)) (λ same. cc) is);
+    awaited = λ t f waits. grown_get room ts Initial t (Awaiting (Resume f)) (tied.awaited t f waits);
   }
 
   -- one fiber more
-  more_fibers : (room : Bool) → Tied ts (one_more room fs Live)
+  more_fibers : (room : Bool) → Tied ts (grown room fs Live)
   more_fibers room = record {
-    resumes = λ t f is. let was = tied.resumes t f is in record { made = was.made; state = slice_get-one_more room fs Live (Suspended t) (f - 1) was.state };
-    awaited = λ t f waits. tied.awaited t f (record { made = waits.made; state = slice_get-one_less room fs Live (Suspended t) (f - 1) (λ same. cc) waits.state });
+    resumes = λ t f is. let was = tied.resumes t f is in record { made = was.made; state = grown_get room fs Live (f - 1) (Suspended t) was.state };
+    awaited = λ t f waits. tied.awaited t f (record { made = waits.made; state = grown_less room fs Live (f - 1) (Suspended t) (λ same. cc) waits.state });
   }
 
   -- a live fiber doesn't wait
@@ -149,22 +149,22 @@ module _ (ts : List TrigState) (fs : List FiberState) (tied : Tied ts fs) where
 
 -- ---- calls
 
-tied_arm : (w : State) (f t : ℕ) (s : Option TrigState) → slice_get w.triggers t ≡ s → IsLive w f → Tied w.triggers w.fibers → Tied (triggers_by w (Arm t (Resume f))) (fibers_by w f (Arm t (Resume f)))
+tied_arm : (w : State) (f t : ℕ) (s : Option TrigState) → slice_get w.triggers t ≡ s → IsLive w f → Tied w.triggers w.fibers → Tied (triggers_after w (Arm t (Resume f))) (fibers_after w f (Arm t (Resume f)))
 tied_arm w f t None is live tied = rw is tied
 tied_arm w f t (Some Initial) is live tied = rw is (begins_to_wait w.triggers w.fibers tied f t live.made live.live is)
 tied_arm w f t (Some (Awaiting action)) is live tied = rw is tied
 tied_arm w f t (Some Signalled) is live tied = rw is tied
 
-tied_signal : (w : State) (f t : ℕ) (s : Option TrigState) → slice_get w.triggers t ≡ s → Tied w.triggers w.fibers → Tied (triggers_by w (call.Signal t)) (fibers_by w f (call.Signal t))
+tied_signal : (w : State) (f t : ℕ) (s : Option TrigState) → slice_get w.triggers t ≡ s → Tied w.triggers w.fibers → Tied (triggers_after w (call.Signal t)) (fibers_after w f (call.Signal t))
 tied_signal w f t None is tied = rw is (signalled_plain w.triggers w.fibers tied t (λ g resumes. let both : None ≡ Some (Awaiting (Resume g)) = sym is ∙ resumes in cc))
 tied_signal w f t (Some Initial) is tied = rw is (signalled_plain w.triggers w.fibers tied t (λ g resumes. let both : Some Initial ≡ Some (Awaiting (Resume g)) = sym is ∙ resumes in cc))
 tied_signal w f t (Some (Awaiting (Resume h))) is tied = rw is (signalled_acts w.triggers w.fibers tied t h is)
 tied_signal w f t (Some Signalled) is tied = rw is (signalled_plain w.triggers w.fibers tied t (λ g resumes. let both : Some Signalled ≡ Some (Awaiting (Resume g)) = sym is ∙ resumes in cc))
 
-tied_parts : (w : State) (f : ℕ) (call : Call) → Allowed w f call → Tied w.triggers w.fibers → Tied (triggers_by w call) (fibers_by w f call)
+tied_parts : (w : State) (f : ℕ) (call : Call) → Allowed w f call → Tied w.triggers w.fibers → Tied (triggers_after w call) (fibers_after w f call)
 tied_parts w f NewTrigger allowed tied = more_triggers w.triggers w.fibers tied (_)
 tied_parts w f (Arm t (Resume g)) allowed tied =
-    subst (λ (n : ℕ). Tied (triggers_by w (Arm t (Resume n))) (fibers_by w f (Arm t (Resume n)))) (sym allowed.own)
+    subst (λ (n : ℕ). Tied (triggers_after w (Arm t (Resume n))) (fibers_after w f (Arm t (Resume n)))) (sym allowed.own)
     (tied_arm w f t (slice_get w.triggers t) refl (caller_is_live w f (Arm t (Resume g)) allowed tt) tied)
 tied_parts w f (call.Signal t) allowed tied = tied_signal w f t (slice_get w.triggers t) refl tied
 tied_parts w f (Fork text value) allowed tied = more_fibers w.triggers w.fibers tied (has_room w)
@@ -186,21 +186,11 @@ to_lists w tied = record {
 }
 
 pub tied_after : (w : State) (f : ℕ) (call : Call) → Allowed w f call → IsTied w → IsTied (after w f call)
-tied_after w f call allowed tied =
-    of_lists (after w f call)
-    (subst (λ (fs : List FiberState). Tied (after w f call).triggers fs) (sym (fibers-after w f call))
-    (subst (λ (ts : List TrigState). Tied ts (fibers_by w f call)) (sym (triggers-after w f call)) (tied_parts w f call allowed (to_lists w tied))))
-
-tied_from : (origin : Origin) (front back : List Happened) → IsLegal origin (front ++ back) → IsTied (world origin front) → IsTied (world origin (front ++ back))
-tied_from origin front [] legal tied = subst (λ (hs : List Happened). IsTied (world origin hs)) (sym (append-nil front)) tied
-tied_from origin front (h ∷ back) legal tied =
-    let assoc : (front ++ h ∷ []) ++ back ≡ front ++ h ∷ back = append_assoc front (h ∷ []) back in
-    let here : IsTied (world origin (front ++ h ∷ [])) = subst IsTied (sym (world-push origin front h)) (tied_after (world origin front) h.entry.fiber h.entry.call (legal.each front back h refl).may.allowed tied) in
-    subst (λ (hs : List Happened). IsTied (world origin hs)) assoc (tied_from origin (front ++ h ∷ []) back (subst (IsLegal origin) (sym assoc) legal) here)
+tied_after w f call allowed tied = of_lists (after w f call) (tied_parts w f call allowed (to_lists w tied))
 
 -- in each world that a legal history leads to
 pub always_tied : (origin : Origin) (hs : List Happened) → IsTied origin.world → IsLegal origin hs → IsTied (world origin hs)
-always_tied origin hs tied legal = tied_from origin [] hs legal tied
+always_tied origin hs tied legal = lasts_from IsTied tied_after origin.world hs (steps origin hs legal) tied
 
 -- at a start nobody waits
 none_awaits : (n t f : ℕ) → slice_get (replicate n Initial) t ≡ Some (Awaiting (Resume f)) → ⊥

@@ -1,31 +1,33 @@
 -- Whoever isn't live owes nothing, and neither does the clock: so a world without a live fiber is final.
 use Rattle.std.proofs.Common.{◌≡◌, ◌≢◌, ◌⊎◌, ℕ, zero, suc, ◌+◌, ◌-◌, ◌<◌, ◌≤◌, inl, inr, eqb, true, false, Option, Some, None, List, [], ◌∷◌, length, slice_index_or, slice_get, refl, sym, ap, subst, ◌∙◌, arith}
 use Rattle.std.specs.Prelude.{All}
+use Rattle.std.proofs.Math.ListN.{get_or-eq_default}
 use Rattle.std.proofs.lemmas.Bool.Decides.{eqb_tells}
 use Rattle.std.proofs.lemmas.Option.{get_or_from_slice_get, slice_get-get_or}
 use Rattle.pic_base.specs.declared.action.Action.{Action}
 use Rattle.pic_base.specs.declared.duty.Duty.{Duty}
 use Rattle.pic_base.specs.declared.duty.Duty.TheVariants.{Signal, Follow, Cancel, Return}
 use Rattle.pic_base.specs.declared.outcome.Outcome.{Outcome}
+use Rattle.pic_machine.specs.declared.birth.Birth.{Birth}
 use Rattle.pic_machine.specs.declared.entry.Call.{Call}
-use Rattle.pic_machine.specs.declared.entry.Call.TheVariants.{Arm, End}
+use Rattle.pic_machine.specs.declared.entry.Call.TheVariants as call
+use Rattle.pic_machine.specs.declared.entry.Call.TheVariants.{Arm, Complete, End, Peek}
 use Rattle.pic_machine.specs.declared.state.FiberState.{FiberState}
 use Rattle.pic_machine.specs.declared.state.FiberState.TheVariants.{Live, Suspended, Ended}
 use Rattle.pic_machine.specs.declared.world.Start.{Start}
 use Rattle.pic_machine.specs.Happened.{Happened}
 use Rattle.pic_machine.specs.State.{State, owed_of, world_at}
-use Rattle.pic_machine.specs.Duty.{ClockMakes, DutiesAllow}
-use Rattle.pic_machine.specs.Final.{IsAtRest, IsFinal}
+use Rattle.pic_machine.specs.Duty.{ClockMakes, DutiesAllow, Fulfils, LeavesDuties}
+use Rattle.pic_machine.specs.Final.{IsFinal}
 use Rattle.pic_machine.specs.Step.{Allowed, IsLive, after}
 use Rattle.pic_machine.specs.History.{Origin, IsLegal, origin_of, world}
 use Rattle.pic_machine.specs.Suspending.{IsTied}
 use Rattle.pic_machine.proofs.Callers.{live_of}
 use Rattle.pic_machine.proofs.Counts.{counts_after}
 use Rattle.pic_machine.proofs.Fates.{steps}
-use Rattle.pic_machine.proofs.Finals.{past_end}
+use Rattle.pic_machine.proofs.Finals.{all_at_rest}
 use Rattle.pic_machine.proofs.Lasting.{lasts_from}
-use Rattle.pic_machine.proofs.Parts.{owed-after}
-use Rattle.pic_machine.proofs.Steps.{live_after, live_unless, owed_after}
+use Rattle.pic_machine.proofs.Steps.{live_after, live_unless, owed_other}
 use Rattle.pic_machine.proofs.Suspensions.{always_tied, start_tied}
 
 -- each fiber has a list of duties beside the clock's, and only live ones owe anything
@@ -39,26 +41,26 @@ pub record IsRested (w : State) : Type 0 where
 clock_rests : (w : State) (g : ℕ) (call : Call) → IsRested w → Allowed w g call → g ≢ 0
 clock_rests w g call rested allowed is = subst (λ (ds : List Duty). ClockMakes ds call) (ap (owed_of w) is ∙ rested.clock) (allowed.clock is)
 
+-- no duty asks for a call that neither fulfils one nor brings one
+asked_by_none : (duty : Duty) (call : Call) → LeavesDuties call → Fulfils duty call → ⊥
+asked_by_none (Signal t) (call.Signal u) leaves fulfils = leaves
+asked_by_none (Follow from into) (Peek c) leaves fulfils = leaves
+asked_by_none (Cancel into code) (Complete c o) leaves fulfils = leaves
+asked_by_none (Return into branch) (Complete c o) leaves fulfils = leaves
+asked_by_none duty call leaves fulfils = fulfils
+
 -- whoever waits or ends owes nothing
 arms_nothing : (ds : List Duty) (t : ℕ) (action : Action) → DutiesAllow ds (Arm t action) → ds ≡ []
 arms_nothing [] t action allow = refl
-arms_nothing (Signal u ∷ ds) t action allow = absurd allow
-arms_nothing (Follow from into ∷ ds) t action allow = absurd allow
-arms_nothing (Cancel into code ∷ ds) t action allow = absurd allow
-arms_nothing (Return into branch ∷ ds) t action allow = absurd allow
+arms_nothing (duty ∷ ds) t action allow = absurd (asked_by_none duty (Arm t action) tt allow)
 
 ends_nothing : (ds : List Duty) (o : Outcome) → DutiesAllow ds (End o) → ds ≡ []
 ends_nothing [] o allow = refl
-ends_nothing (Signal u ∷ ds) o allow = absurd allow
-ends_nothing (Follow from into ∷ ds) o allow = absurd allow
-ends_nothing (Cancel into code ∷ ds) o allow = absurd allow
-ends_nothing (Return into branch ∷ ds) o allow = absurd allow
+ends_nothing (duty ∷ ds) o allow = absurd (asked_by_none duty (End o) tt allow)
 
 own_rests : (w : State) (f : ℕ) (call : Call) (place : ℕ) (s : FiberState) → f ≡ suc place → Allowed w f call → IsLive w f → slice_get (after w f call).fibers place ≡ Some s → s ≢ Live → owed_of (after w f call) f ≡ []
-own_rests w f (Arm t action) place s at allowed live is rests =
-    ap (λ (ds : List (List Duty)). slice_index_or ds f []) (owed-after w f (Arm t action)) ∙ arms_nothing (owed_of w f) t action allowed.duties
-own_rests w f (End o) place s at allowed live is rests =
-    ap (λ (ds : List (List Duty)). slice_index_or ds f []) (owed-after w f (End o)) ∙ ends_nothing (owed_of w f) o allowed.duties
+own_rests w f (Arm t action) place s at allowed live is rests = arms_nothing (owed_of w f) t action allowed.duties
+own_rests w f (End o) place s at allowed live is rests = ends_nothing (owed_of w f) o allowed.duties
 own_rests w f call place s at allowed live is rests =
     let still = live_unless w f call f tt live in
     let here : f - 1 ≡ place = omega (arith, at) in
@@ -73,7 +75,7 @@ none_past (x ∷ xs) (suc i) is = omega (arith, none_past xs i is)
 
 other_rests : (w : State) (g : ℕ) (call : Call) (place : ℕ) (s : FiberState) (before : Option FiberState) → slice_get w.fibers place ≡ before → IsRested w → Allowed w g call → g ≢ suc place
     → slice_get (after w g call).fibers place ≡ Some s → s ≢ Live → owed_of w (suc place) ≡ []
-other_rests w g call place s None was rested allowed other is rests = past_end w.owed (suc place) (omega (arith, rested.counts, none_past w.fibers place was))
+other_rests w g call place s None was rested allowed other is rests = get_or-eq_default w.owed [] (omega (arith, rested.counts, none_past w.fibers place was))
 other_rests w g call place s (Some Live) was rested allowed other is rests =
     let here : place ≡ suc place - 1 = omega arith in
     let live : IsLive w (suc place) = record { made = omega arith; live = ap (slice_get w.fibers) (sym here) ∙ was } in
@@ -89,12 +91,12 @@ rests_by : (w : State) (g : ℕ) (call : Call) (place : ℕ) (s : FiberState) �
 rests_by w g call place s rested allowed is rests (inl mine) =
     ap (owed_of (after w g call)) (sym mine.1) ∙ own_rests w g call place s mine.1 allowed (live_of w g allowed.caller (clock_rests w g call rested allowed)) is rests
 rests_by w g call place s rested allowed is rests (inr other) =
-    owed_after w g call (suc place) other.1 ∙ other_rests w g call place s (slice_get w.fibers place) refl rested allowed other.1 is rests
+    owed_other w g call (suc place) other.1 ∙ other_rests w g call place s (slice_get w.fibers place) refl rested allowed other.1 is rests
 
 pub rested_after : (w : State) (g : ℕ) (call : Call) → Allowed w g call → IsRested w → IsRested (after w g call)
 rested_after w g call allowed rested = record {
   counts = counts_after w g call rested.counts;
-  clock = owed_after w g call 0 (clock_rests w g call rested allowed) ∙ rested.clock;
+  clock = owed_other w g call 0 (clock_rests w g call rested allowed) ∙ rested.clock;
   fibers = λ place s is rests. rests_by w g call place s rested allowed is rests (eqb_tells g (suc place));
 }
 
@@ -111,16 +113,6 @@ start_quiet start (suc (suc place)) = refl
 pub start_rested : (start : Start) → IsRested (world_at start)
 start_rested start = record { counts = refl; clock = refl; fibers = λ place s is rests. start_quiet start place }
 
--- where nobody is live, whoever waits does so at a trigger that isn't signalled
-at_rest : (w : State) (place : ℕ) (s : FiberState) → IsTied w → slice_get w.fibers place ≡ Some s → s ≢ Live → IsAtRest w.triggers s
-at_rest w place Live tied is rests = absurd (rests refl)
-at_rest w place (Suspended t) tied is rests = λ over.
-    let here : suc place - 1 ≡ place = omega arith in
-    let awaited = tied.awaited t (suc place) (record { made = omega arith; state = ap (slice_get w.fibers) here ∙ is }) in
-    let both = sym awaited ∙ over in
-    cc
-at_rest w place (Ended o) tied is rests = tt
-
 -- what is read in range doesn't depend on the default
 same_default : (ds : List (List Duty)) (i : ℕ) (e : List Duty) → i < length ds → slice_index_or ds i [] ≡ slice_index_or ds i e
 same_default ds i e inside = get_or_from_slice_get ds i (slice_index_or ds i e) [] (slice_get-get_or ds i e inside)
@@ -134,12 +126,11 @@ owes_none w (suc place) d rested none within =
     sym (same_default w.owed (suc place) d within) ∙ rested.fibers place (slice_index_or w.fibers place Live) there (none place Live inside)
 
 pub final_when : (w : State) → IsTied w → IsRested w → All (λ fiber. fiber ≢ Live) w.fibers → IsFinal w
-final_when w tied rested none = record {
-  rest = λ place other within. at_rest w place (slice_index_or w.fibers place other) tied (slice_get-get_or w.fibers place other within) (none place other within);
-  owed = λ k d within. owes_none w k d rested none within;
-}
+final_when w tied rested none = record { rest = all_at_rest w tied none; owed = λ k d within. owes_none w k d rested none within }
 
 -- from a start on, nothing is left to do as soon as no fiber is live
-pub final_unless_live : (start : Start) (hs : List Happened) → IsLegal (origin_of start) hs → All (λ fiber. fiber ≢ Live) (world (origin_of start) hs).fibers → IsFinal (world (origin_of start) hs)
-final_unless_live start hs legal none =
-    final_when (world (origin_of start) hs) (always_tied (origin_of start) hs (start_tied start) legal) (always_rested (origin_of start) hs (start_rested start) legal) none
+pub final_unless_live : (start : Start) (main : Birth) (hs : List Happened) → IsLegal (origin_of start main) hs → All (λ fiber. fiber ≢ Live) (world (origin_of start main) hs).fibers
+    → IsFinal (world (origin_of start main) hs)
+final_unless_live start main hs legal none =
+    let origin : Origin = origin_of start main in
+    final_when (world origin hs) (always_tied origin hs (start_tied start) legal) (always_rested origin hs (start_rested start) legal) none

@@ -26,11 +26,11 @@ signal_all duties owed triggers i all before =
 
 -- a running computation gets one more trigger
 pub attached_more : (w : State) (c t : ℕ) (before now : List ℕ) → slice_get w.comps c ≡ Some (Running before) → now ≡ before ++ t ∷ []
-    → record w { comps = slice_set w.comps c (Running now) } ≡ with_attached w c t (slice_get w.comps c)
+    → slice_set w.comps c (Running now) ≡ with_attached w.comps c t (slice_get w.comps c)
 attached_more w c t before now is more = rw (is, more) refl
 
 -- a completed one is as it was
-pub attached_none : (w : State) (c t : ℕ) (o : Outcome) → slice_get w.comps c ≡ Some (Done o) → record w { comps = slice_set w.comps c (Done o) } ≡ with_attached w c t (slice_get w.comps c)
+pub attached_none : (w : State) (c t : ℕ) (o : Outcome) → slice_get w.comps c ≡ Some (Done o) → slice_set w.comps c (Done o) ≡ with_attached w.comps c t (slice_get w.comps c)
 attached_none w c t o is =
     let same : slice_set w.comps c (Done o) ≡ w.comps = ap (slice_set w.comps c) (sym (get_or_from_slice_get w.comps c (Done o) (Done o) is)) ∙ set-get_or w.comps c (Done o) in
-    rw is (ap (λ (cs : List CompState). record w { comps = cs }) same)
+    rw is same

@@ -11,13 +11,12 @@ use Rattle.pic_machine.specs.declared.state.CompState.TheVariants.{Running, Done
 use Rattle.pic_machine.specs.Happened.{Happened}
 use Rattle.pic_machine.specs.Signalling.{attached_by, attachments}
 use Rattle.pic_machine.specs.State.{State}
-use Rattle.pic_machine.specs.Step.{after, attached, reply_of}
+use Rattle.pic_machine.specs.Step.{after, attached, comps_after, reply_of, with_attached}
 use Rattle.pic_machine.specs.History.{Origin, IsLegal, world, world_from}
-use Rattle.pic_machine.proofs.Completions.{done_after, done_other}
+use Rattle.pic_machine.proofs.Completions.{attached_other, done_stays, outcome_other}
 use Rattle.pic_machine.proofs.Fates.{AreSteps, IsStep, steps}
 use Rattle.pic_machine.proofs.Lasting.{lasts_from}
-use Rattle.pic_machine.proofs.Lists.{slice_get-set_other, slice_get-set_same}
-use Rattle.pic_machine.proofs.Parts.{attached_at, comps-after, comps_by}
+use Rattle.pic_machine.proofs.Lists.{slice_get-set_same}
 
 -- the computation runs with these triggers, or is completed
 data Goes (cs : List CompState) (c : ℕ) (triggers : List ℕ) : Type 0 where
@@ -33,37 +32,30 @@ other_attached c p d t None other = rw other refl
 other_attached c p d t (Some (Running triggers)) other = rw other refl
 other_attached c p d t (Some (Done o)) other = refl
 
-attached_other : (cs : List CompState) (d c t : ℕ) (s : Option CompState) → c ≢ d → slice_get (attached_at cs d t s) c ≡ slice_get cs c
-attached_other cs d c t (Some (Running triggers)) other = slice_get-set_other cs d c (Running (triggers ++ t ∷ [])) other
-attached_other cs d c t s other = refl
-
 goes_attached : (cs : List CompState) (c p d t : ℕ) (ts : List ℕ) (b : Bool) → (d == c) ≡ b → slice_get cs c ≡ Some (Running ts)
-    → Goes (attached_at cs d t (slice_get cs d)) c (ts ++ attached_by c (Attach p d t) (attached (slice_get cs d)))
+    → Goes (with_attached cs d t (slice_get cs d)) c (ts ++ attached_by c (Attach p d t) (attached (slice_get cs d)))
 goes_attached cs c p d t ts true same is =
     let at : d ≡ c = grind (arith, nat_tests, same) in
     let there : slice_get cs d ≡ Some (Running ts) = ap (slice_get cs) at ∙ is in
     rw (there, same) (runs (ap (slice_get (slice_set cs d (Running (ts ++ t ∷ [])))) (sym at) ∙ slice_get-set_same cs d (Running (ts ++ t ∷ [])) (slice_get_within cs d (Running ts) there)))
 goes_attached cs c p d t ts false other is =
     let apart : c ≢ d = grind (arith, nat_tests, other) in
-    subst (λ (us : List ℕ). Goes (attached_at cs d t (slice_get cs d)) c (ts ++ us)) (sym (other_attached c p d t (slice_get cs d) other))
-    (none_more (attached_at cs d t (slice_get cs d)) c ts (attached_other cs d c t (slice_get cs d) apart ∙ is))
+    subst (λ (us : List ℕ). Goes (with_attached cs d t (slice_get cs d)) c (ts ++ us)) (sym (other_attached c p d t (slice_get cs d) other))
+    (none_more (with_attached cs d t (slice_get cs d)) c ts (attached_other cs d c t (slice_get cs d) apart ∙ is))
 
-goes_completed : (w : State) (c d : ℕ) (o : Outcome) (ts : List ℕ) (b : Bool) → (d == c) ≡ b → slice_get w.comps c ≡ Some (Running ts) → Goes (comps_by w (Complete d o)) c (ts ++ [])
+goes_completed : (w : State) (c d : ℕ) (o : Outcome) (ts : List ℕ) (b : Bool) → (d == c) ≡ b → slice_get w.comps c ≡ Some (Running ts) → Goes (comps_after w (Complete d o)) c (ts ++ [])
 goes_completed w c d o ts true same is =
     let at : d ≡ c = grind (arith, nat_tests, same) in
     let there : slice_get w.comps d ≡ Some (Running ts) = ap (slice_get w.comps) at ∙ is in
     rw there (done o (ap (slice_get (slice_set w.comps d (Done o))) (sym at) ∙ slice_get-set_same w.comps d (Done o) (slice_get_within w.comps d (Running ts) there)))
 goes_completed w c d o ts false other is =
     let apart : c ≢ d = grind (arith, nat_tests, other) in
-    none_more (comps_by w (Complete d o)) c ts (done_other w.comps d c o (slice_get w.comps d) apart ∙ is)
+    none_more (comps_after w (Complete d o)) c ts (outcome_other w.comps d c o (slice_get w.comps d) apart ∙ is)
 
-goes_by : (w : State) (f : ℕ) (call : Call) (c : ℕ) (ts : List ℕ) → slice_get w.comps c ≡ Some (Running ts) → Goes (comps_by w call) c (ts ++ attached_by c call (reply_of w f call))
-goes_by w f (Attach p d t) c ts is = goes_attached w.comps c p d t ts (d == c) refl is
-goes_by w f (Complete d o) c ts is = goes_completed w c d o ts (d == c) refl is
-goes_by w f call c ts is = none_more w.comps c ts is
-
-goes_after : (w : State) (f : ℕ) (call : Call) (c : ℕ) (ts : List ℕ) → slice_get w.comps c ≡ Some (Running ts) → Goes (after w f call).comps c (ts ++ attached_by c call (reply_of w f call))
-goes_after w f call c ts is = subst (λ (cs : List CompState). Goes cs c (ts ++ attached_by c call (reply_of w f call))) (sym (comps-after w f call)) (goes_by w f call c ts is)
+goes_after : (w : State) (f : ℕ) (call : Call) (c : ℕ) (ts : List ℕ) → slice_get w.comps c ≡ Some (Running ts) → Goes (comps_after w call) c (ts ++ attached_by c call (reply_of w f call))
+goes_after w f (Attach p d t) c ts is = goes_attached w.comps c p d t ts (d == c) refl is
+goes_after w f (Complete d o) c ts is = goes_completed w c d o ts (d == c) refl is
+goes_after w f _ c ts is = none_more w.comps c ts is
 
 module _ (w : State) (h : Happened) (hs : List Happened) (c : ℕ) (ts us : List ℕ) (step : IsStep w h) (are : AreSteps (after w h.entry.fiber h.entry.call) hs)
     (now : slice_get (world_from w (h ∷ hs)).comps c ≡ Some (Running us)) where
@@ -75,7 +67,7 @@ module _ (w : State) (h : Happened) (hs : List Happened) (c : ℕ) (ts us : List
       ∙ ap (λ (reply : Reply). ts ++ (attached_by c h.entry.call reply ++ attachments hs c)) (sym step.reply))
   one_on (done o there) later =
       let last : slice_get (world_from w (h ∷ hs)).comps c ≡ Some (Done o) =
-      lasts_from (λ v. slice_get v.comps c ≡ Some (Done o)) (λ v f call allowed stands. (done_after v f call c o stands).state) (after w h.entry.fiber h.entry.call) hs are there in
+      lasts_from (λ v. slice_get v.comps c ≡ Some (Done o)) (λ v f call allowed stands. done_stays v f call c o stands) (after w h.entry.fiber h.entry.call) hs are there in
       let both : Some (Running us) ≡ Some (Done o) = sym now ∙ last in
       absurd cc
 

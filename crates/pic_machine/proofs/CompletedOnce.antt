@@ -9,13 +9,12 @@ use Rattle.pic_machine.specs.declared.entry.Reply.TheVariants.{Completed}
 use Rattle.pic_machine.specs.declared.state.CompState.{CompState}
 use Rattle.pic_machine.specs.declared.state.CompState.TheVariants.{Running, Done}
 use Rattle.pic_machine.specs.Happened.{Happened}
-use Rattle.pic_machine.specs.Step.{NamesStand, after, completed, peeked, reply_of}
+use Rattle.pic_machine.specs.Step.{NamesStand, after, completed, peeked, reply_of, with_outcome}
 use Rattle.pic_machine.specs.History.{Origin, Follows, IsLegal, world}
 use Rattle.pic_machine.specs.Once.{CompletesOnce, Precedes, Wins}
-use Rattle.pic_machine.proofs.Completions.{done_after}
+use Rattle.pic_machine.proofs.Completions.{done_stays}
 use Rattle.pic_machine.proofs.Lasting.{first_follows, holds_later, later_follows}
 use Rattle.pic_machine.proofs.Lists.{nothing_there, slice_get-set_same}
-use Rattle.pic_machine.proofs.Parts.{comps-after, done_at}
 
 -- a completion that won found a computation running
 pub won_running : (cs : List CompState) (c : ℕ) (s : Option CompState) → slice_get cs c ≡ s → c < length cs → Completed Won ≡ completed s → (triggers : List ℕ) × (slice_get cs c ≡ Some (Running triggers))
@@ -42,14 +41,14 @@ won_after origin hs h c o follows wins =
     let ran = won_before origin hs h c o follows wins in
     let done : slice_get (slice_set w.comps c (Done o)) c ≡ Some (Done o) = slice_get-set_same w.comps c (Done o) (slice_get_within w.comps c (Running ran.0) ran.1) in
     let there : slice_get (after w h.entry.fiber (Complete c o)).comps c ≡ Some (Done o) =
-    ap (λ (cs : List CompState). slice_get cs c) (comps-after w h.entry.fiber (Complete c o)) ∙ (ap (λ (s : Option CompState). slice_get (done_at w.comps c o s) c) ran.1 ∙ done) in
+    ap (λ (s : Option CompState). slice_get (with_outcome w.comps c o s) c) ran.1 ∙ done in
     ap (λ (call : Call). slice_get (after w h.entry.fiber call).comps c) wins.call ∙ there
 
 -- before each later entry too
 still_done : (origin : Origin) (hs : List Happened) (first later : Happened) (c : ℕ) (o : Outcome) (order : Precedes hs first later) → IsLegal origin hs → Wins c o first
     → slice_get (world origin (order.front ++ first ∷ order.between)).comps c ≡ Some (Done o)
 still_done origin hs first later c o order legal wins =
-    holds_later (λ w. slice_get w.comps c ≡ Some (Done o)) (λ w f call allowed is. (done_after w f call c o is).state) origin hs first later order legal
+    holds_later (λ w. slice_get w.comps c ≡ Some (Done o)) (λ w f call allowed is. done_stays w f call c o is) origin hs first later order legal
     (won_after origin order.front first c o (first_follows origin hs first later order legal) wins)
 
 told_lost : (origin : Origin) (hs : List Happened) (first later : Happened) (c : ℕ) (o x : Outcome) (order : Precedes hs first later) → IsLegal origin hs → Wins c o first

@@ -36,7 +36,7 @@ pub record StandsAt (comps : List CompState) (c : ℕ) (outcome : Option Outcome
   pub is : outcome_of state ≡ outcome
 
 -- a completion leaves the others as they were
-outcome_other : (comps : List CompState) (d c : ℕ) (o : Outcome) (s : Option CompState) → c ≢ d → slice_get (with_outcome comps d o s) c ≡ slice_get comps c
+pub outcome_other : (comps : List CompState) (d c : ℕ) (o : Outcome) (s : Option CompState) → c ≢ d → slice_get (with_outcome comps d o s) c ≡ slice_get comps c
 outcome_other comps d c o (Some (Running triggers)) other = slice_get-set_other comps d c (Done o) other
 outcome_other comps d c o _ other = refl
 
@@ -49,7 +49,7 @@ stands_other : (comps : List CompState) (d c : ℕ) (o : Outcome) (s : Option Co
 stands_other comps d c o s outcome other stands = record { state = stands.state; there = outcome_other comps d c o s other ∙ stands.there; is = stands.is }
 
 -- so does an attachment: what is attached to a computation leaves it running
-attached_other : (comps : List CompState) (d c t : ℕ) (s : Option CompState) → c ≢ d → slice_get (with_attached comps d t s) c ≡ slice_get comps c
+pub attached_other : (comps : List CompState) (d c t : ℕ) (s : Option CompState) → c ≢ d → slice_get (with_attached comps d t s) c ≡ slice_get comps c
 attached_other comps d c t (Some (Running triggers)) other = slice_get-set_other comps d c (Running (triggers ++ t ∷ [])) other
 attached_other comps d c t _ other = refl
 

@@ -2,24 +2,24 @@
 use Rattle.std.proofs.Common.{◌≡◌, ◌≢◌, ℕ, Option, List, [], ◌∷◌, ◌++◌, refl, sym, subst, ap, ◌∙◌, append_assoc}
 use Rattle.pic_machine.specs.Happened.{Happened}
 use Rattle.pic_machine.specs.declared.poller.Turn.{Turn}
-use Rattle.pic_machine.specs.declared.poller.Turn.TheVariants.{Ended, Yielded, Again, Memory}
+use Rattle.pic_machine.specs.declared.poller.Turn.TheVariants.{Ended, Yielded, Parked, Again, Memory}
 use Rattle.pic_machine.specs.declared.port.PortFault.{PortFault}
 use Rattle.pic_machine.specs.declared.port.PortFault.TheVariants as fault
 use Rattle.pic_machine.specs.Log.{log}
 use Rattle.pic_machine.specs.Order.{GoesOn, readied}
 use Rattle.pic_machine.specs.Sight.{Carry, Sight, Holds, IsSame, fiber_of}
 use Rattle.pic_machine.specs.Lending.{Calm, Kept, Refuses, Spared}
-use Rattle.pic_machine.specs.Turning.{Adds, EndsSo, Grew, Polled, Stopped, Went, YieldsSo}
+use Rattle.pic_machine.specs.Turning.{Adds, EndsSo, Grew, ParksSo, Polled, Stopped, Went, YieldsSo}
 use Rattle.pic_machine.proofs.Lists.{each-append}
 use Rattle.pic_machine.proofs.Onward.{later_same, spared}
-use Rattle.pic_machine.proofs.Standing.{log_stays}
+use Rattle.pic_machine.proofs.Staying.{log_stays}
 use Rattle.pic_machine.proofs.Turns.{Adds-trans, Grew-trans, Went-trans, readied-append, rose_from, same_fiber, went_spared}
 
 -- a body that got room, and to which nothing happened
 pub went_same : {S : Type 0} (p : Sight S) (a b : Carry S) (line : Option (List ℕ)) → Holds p a → IsSame a b → b.owes ≡ a.owes → Went p p a b line line
 went_same p a b line holds same owes =
     let kept : Kept p p = record { grown = record { others = []; none = λ alone. refl; later = later_same p; legal = holds.legal }; out = refl } in
-    went_spared p p a b line (spared p p a b kept tt holds same (ap p.duties owes))
+    went_spared p p a b line (spared p p a b kept tt holds same owes)
 
 -- a call that was refused left the log as it was
 pub log_spared : {S : Type 0} (p q : Sight S) (a b : Carry S) → Spared p q a b → log q.front (fiber_of a) ≡ log p.front (fiber_of a)
@@ -52,6 +52,7 @@ module _ {B S : Type 0} (seen : B → Carry S) (fits : B → List Happened → T
   pub polled_after : (answer : Turn B) (b : Carry S) → Went p q a b start now → Calm p q → Polled answer seen fits q r b now later → Polled answer seen fits p r a start later
   polled_after Ended b before calm rest = stopped_after p q r a b start now later (λ h. EndsSo h.entry.call) before rest
   polled_after Yielded b before calm rest = stopped_after p q r a b start now later (λ h. YieldsSo h.entry.call) before rest
+  polled_after Parked b before calm rest = stopped_after p q r a b start now later (λ h. ParksSo h.entry.call) before rest
   polled_after (Again back) b before calm rest = (
     Went-trans p q r a b (seen back) start now later before rest.0,
     subst (λ (n : ℕ). fits back (log r.front n)) (same_fiber a b before.number) rest.1,

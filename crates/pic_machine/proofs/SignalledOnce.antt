@@ -14,38 +14,34 @@ use Rattle.pic_machine.specs.declared.state.TrigState.{TrigState}
 use Rattle.pic_machine.specs.declared.state.TrigState.TheVariants.{Initial, Awaiting, Signalled}
 use Rattle.pic_machine.specs.Happened.{Happened}
 use Rattle.pic_machine.specs.State.{State}
-use Rattle.pic_machine.specs.Step.{after, armed, signalled}
+use Rattle.pic_machine.specs.Step.{after, armed, signalled, triggers_after, with_action}
 use Rattle.pic_machine.specs.History.{Origin, Follows, IsLegal, world}
 use Rattle.pic_machine.specs.Once.{Arms, Precedes, SignalsOnce}
 use Rattle.pic_machine.proofs.CompletedOnce.{named, replied}
 use Rattle.pic_machine.proofs.Lasting.{first_follows, holds_later, later_follows}
-use Rattle.pic_machine.proofs.Lists.{nothing_there, slice_get-one_more, slice_get-set_other, slice_get-set_same}
-use Rattle.pic_machine.proofs.Parts.{armed_at, triggers-after, triggers_by}
+use Rattle.pic_machine.proofs.Lists.{grown_get, nothing_there, slice_get-set_other, slice_get-set_same}
 
 -- ---- signalled once and for all
 
-arm_leaves : (ts : List TrigState) (u t : ℕ) (action : Action) (s : Option TrigState) → slice_get ts u ≡ s → slice_get ts t ≡ Some Signalled → slice_get (armed_at ts u action s) t ≡ Some Signalled
+arm_leaves : (ts : List TrigState) (u t : ℕ) (action : Action) (s : Option TrigState) → slice_get ts u ≡ s → slice_get ts t ≡ Some Signalled → slice_get (with_action ts u action s) t ≡ Some Signalled
 arm_leaves ts u t action (Some Initial) there is =
     let other : t ≢ u = λ same. let both : Some Signalled ≡ Some Initial = sym is ∙ (ap (slice_get ts) same ∙ there) in cc in
     slice_get-set_other ts u t (Awaiting action) other ∙ is
 arm_leaves ts u t action s there is = is
 
-signalled_by : (w : State) (call : Call) (t : ℕ) → slice_get w.triggers t ≡ Some Signalled → slice_get (triggers_by w call) t ≡ Some Signalled
-signalled_by w NewTrigger t is = slice_get-one_more (nat_lt (length w.triggers) w.limits.triggers) w.triggers Initial Signalled t is
-signalled_by w (Arm u action) t is = arm_leaves w.triggers u t action (slice_get w.triggers u) refl is
-signalled_by w (call.Signal u) t is = at (eqb_tells t u) where
+pub signalled_stays : (w : State) (f : ℕ) (call : Call) (t : ℕ) → slice_get w.triggers t ≡ Some Signalled → slice_get (triggers_after w call) t ≡ Some Signalled
+signalled_stays w f NewTrigger t is = grown_get (nat_lt (length w.triggers) w.limits.triggers) w.triggers Initial t Signalled is
+signalled_stays w f (Arm u action) t is = arm_leaves w.triggers u t action (slice_get w.triggers u) refl is
+signalled_stays w f (call.Signal u) t is = at (eqb_tells t u) where
   at : ((eqb t u ≡ true) × (t ≡ u)) ⊎ ((eqb t u ≡ false) × (t ≢ u)) → slice_get (slice_set w.triggers u Signalled) t ≡ Some Signalled
   at (inl same) =
       subst (λ (n : ℕ). slice_get (slice_set w.triggers n Signalled) t ≡ Some Signalled) same.1 (slice_get-set_same w.triggers t Signalled (slice_get_within w.triggers t Signalled is))
   at (inr other) = slice_get-set_other w.triggers u t Signalled other.1 ∙ is
-signalled_by w call t is = is
-
-pub signalled_stays : (w : State) (f : ℕ) (call : Call) (t : ℕ) → slice_get w.triggers t ≡ Some Signalled → slice_get (after w f call).triggers t ≡ Some Signalled
-signalled_stays w f call t is = ap (λ (ts : List TrigState). slice_get ts t) (triggers-after w f call) ∙ signalled_by w call t is
+signalled_stays w f _ t is = is
 
 -- behind a signal
 pub signal_done : (w : State) (f t : ℕ) → t < length w.triggers → slice_get (after w f (call.Signal t)).triggers t ≡ Some Signalled
-signal_done w f t within = ap (λ (ts : List TrigState). slice_get ts t) (triggers-after w f (call.Signal t)) ∙ slice_get-set_same w.triggers t Signalled within
+signal_done w f t within = slice_get-set_same w.triggers t Signalled within
 
 found_signalled : (origin : Origin) (hs : List Happened) (first later : Happened) (t : ℕ) → Precedes hs first later → IsLegal origin hs → first.entry.call ≡ call.Signal t → later.entry.call ≡ call.Signal t
     → later.entry.reply ≡ reply.Signalled Already
@@ -66,7 +62,7 @@ record HasBegun (ts : List TrigState) (t : ℕ) : Type 0 where
   is : slice_get ts t ≡ Some state
   begun : state ≢ Initial
 
-arm_keeps : (ts : List TrigState) (u t : ℕ) (action : Action) (s : Option TrigState) → slice_get ts u ≡ s → HasBegun ts t → HasBegun (armed_at ts u action s) t
+arm_keeps : (ts : List TrigState) (u t : ℕ) (action : Action) (s : Option TrigState) → slice_get ts u ≡ s → HasBegun ts t → HasBegun (with_action ts u action s) t
 arm_keeps ts u t action (Some Initial) there has =
     let other : t ≢ u = λ same.
     let both : Some has.state ≡ Some Initial = sym has.is ∙ (ap (slice_get ts) same ∙ there) in
@@ -74,10 +70,10 @@ arm_keeps ts u t action (Some Initial) there has =
     record { state = has.state; is = slice_get-set_other ts u t (Awaiting action) other ∙ has.is; begun = has.begun }
 arm_keeps ts u t action s there has = has
 
-begun_by : (w : State) (call : Call) (t : ℕ) → HasBegun w.triggers t → HasBegun (triggers_by w call) t
-begun_by w NewTrigger t has = record { state = has.state; is = slice_get-one_more (nat_lt (length w.triggers) w.limits.triggers) w.triggers Initial has.state t has.is; begun = has.begun }
-begun_by w (Arm u action) t has = arm_keeps w.triggers u t action (slice_get w.triggers u) refl has
-begun_by w (call.Signal u) t has = at (eqb_tells t u) where
+begun_stays : (w : State) (call : Call) (t : ℕ) → HasBegun w.triggers t → HasBegun (triggers_after w call) t
+begun_stays w NewTrigger t has = record { state = has.state; is = grown_get (nat_lt (length w.triggers) w.limits.triggers) w.triggers Initial t has.state has.is; begun = has.begun }
+begun_stays w (Arm u action) t has = arm_keeps w.triggers u t action (slice_get w.triggers u) refl has
+begun_stays w (call.Signal u) t has = at (eqb_tells t u) where
   at : ((eqb t u ≡ true) × (t ≡ u)) ⊎ ((eqb t u ≡ false) × (t ≢ u)) → HasBegun (slice_set w.triggers u Signalled) t
   at (inl same) = record {
     state = Signalled;
@@ -85,10 +81,7 @@ begun_by w (call.Signal u) t has = at (eqb_tells t u) where
     begun = λ same. cc;
   }
   at (inr other) = record { state = has.state; is = slice_get-set_other w.triggers u t Signalled other.1 ∙ has.is; begun = has.begun }
-begun_by w call t has = has
-
-begun_stays : (w : State) (f : ℕ) (call : Call) (t : ℕ) → HasBegun w.triggers t → HasBegun (after w f call).triggers t
-begun_stays w f call t has = subst (λ (ts : List TrigState). HasBegun ts t) (sym (triggers-after w f call)) (begun_by w call t has)
+begun_stays w _ t has = has
 
 -- an arm that was set found the trigger initial
 set_initial : (ts : List TrigState) (t : ℕ) (s : Option TrigState) → slice_get ts t ≡ s → t < length ts → Armed Set ≡ armed s → slice_get ts t ≡ Some Initial
@@ -107,8 +100,7 @@ set_begins origin hs h t follows arms =
     let w = world origin hs in
     let initial = was_initial origin hs h t follows arms in
     let parts : (after w h.entry.fiber h.entry.call).triggers ≡ slice_set w.triggers t (Awaiting arms.action) =
-    ap (λ (call : Call). (after w h.entry.fiber call).triggers) arms.call
-    ∙ (triggers-after w h.entry.fiber (Arm t arms.action) ∙ ap (λ (s : Option TrigState). armed_at w.triggers t arms.action s) initial) in
+    ap (triggers_after w) arms.call ∙ ap (λ (s : Option TrigState). with_action w.triggers t arms.action s) initial in
     record {
       state = Awaiting arms.action;
       is = ap (λ (ts : List TrigState). slice_get ts t) parts ∙ slice_get-set_same w.triggers t (Awaiting arms.action) (slice_get_within w.triggers t Initial initial);
@@ -119,7 +111,7 @@ armed_twice : (origin : Origin) (hs : List Happened) (first later : Happened) (t
 armed_twice origin hs first later t order legal one two =
     let here = set_begins origin order.front first t (first_follows origin hs first later order legal) one in
     let there : HasBegun (world origin (order.front ++ first ∷ order.between)).triggers t =
-    holds_later (λ v. HasBegun v.triggers t) (λ v f call allowed has. begun_stays v f call t has) origin hs first later order legal here in
+    holds_later (λ v. HasBegun v.triggers t) (λ v f call allowed has. begun_stays v call t has) origin hs first later order legal here in
     let initial = was_initial origin (order.front ++ first ∷ order.between) later t (later_follows origin hs first later order legal) two in
     let both : Some there.state ≡ Some Initial = sym there.is ∙ initial in
     there.begun cc

@@ -3,13 +3,13 @@ use Rattle.std.proofs.Common.{◌≡◌, ℕ, ◌<◌, Option, Some, None, List,
 use Rattle.std.proofs.lemmas.Option.{slice_get_within}
 use Rattle.pic_base.specs.declared.outcome.Outcome.{Outcome}
 use Rattle.pic_machine.specs.declared.entry.Call.{Call}
-use Rattle.pic_machine.specs.declared.entry.Call.TheVariants.{Complete, Peek}
+use Rattle.pic_machine.specs.declared.entry.Call.TheVariants.{Attach, Complete, Peek}
 use Rattle.pic_machine.specs.declared.entry.CompleteReply.TheVariants.{Won, Lost}
 use Rattle.pic_machine.specs.declared.entry.Reply.TheVariants.{Completed}
 use Rattle.pic_machine.specs.declared.state.CompState.{CompState}
 use Rattle.pic_machine.specs.declared.state.CompState.TheVariants.{Running, Done}
 use Rattle.pic_machine.specs.Happened.{Happened}
-use Rattle.pic_machine.specs.Step.{NamesStand, after, completed, peeked, reply_of, with_outcome}
+use Rattle.pic_machine.specs.Step.{NamesStand, after, attached, completed, peeked, reply_of, with_outcome}
 use Rattle.pic_machine.specs.History.{Origin, Follows, IsLegal, world}
 use Rattle.pic_machine.specs.Once.{CompletesOnce, Precedes, Wins}
 use Rattle.pic_machine.proofs.Completions.{done_stays}
@@ -64,4 +64,6 @@ completes_once origin hs c legal = record {
   lost = λ first later o x order wins is. told_lost origin hs first later c o x order legal wins is;
   seen = λ first later o order wins is.
       replied origin (order.front ++ first ∷ order.between) later (Peek c) (later_follows origin hs first later order legal) is ∙ ap peeked (still_done origin hs first later c o order legal wins);
+  late = λ first later o p t order wins is.
+      replied origin (order.front ++ first ∷ order.between) later (Attach p c t) (later_follows origin hs first later order legal) is ∙ ap attached (still_done origin hs first later c o order legal wins);
 }

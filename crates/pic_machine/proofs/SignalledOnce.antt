@@ -6,7 +6,8 @@ use Rattle.pic_base.specs.declared.action.Action.{Action}
 use Rattle.pic_machine.specs.declared.entry.ArmReply.TheVariants.{Set}
 use Rattle.pic_machine.specs.declared.entry.Call.{Call}
 use Rattle.pic_machine.specs.declared.entry.Call.TheVariants as call
-use Rattle.pic_machine.specs.declared.entry.Call.TheVariants.{NewTrigger, Arm}
+use Rattle.pic_machine.specs.declared.entry.Call.TheVariants.{NewTrigger, Look, Arm}
+use Rattle.pic_machine.specs.declared.entry.Reply.{Reply}
 use Rattle.pic_machine.specs.declared.entry.Reply.TheVariants as reply
 use Rattle.pic_machine.specs.declared.entry.Reply.TheVariants.{Armed}
 use Rattle.pic_machine.specs.declared.entry.SignalReply.TheVariants.{Acted, Already}
@@ -14,7 +15,7 @@ use Rattle.pic_machine.specs.declared.state.TrigState.{TrigState}
 use Rattle.pic_machine.specs.declared.state.TrigState.TheVariants.{Initial, Awaiting, Signalled}
 use Rattle.pic_machine.specs.Happened.{Happened}
 use Rattle.pic_machine.specs.State.{State}
-use Rattle.pic_machine.specs.Step.{after, armed, signalled, triggers_after, with_action}
+use Rattle.pic_machine.specs.Step.{after, armed, reply_of, seen, signalled, triggers_after, with_action}
 use Rattle.pic_machine.specs.History.{Origin, Follows, IsLegal, world}
 use Rattle.pic_machine.specs.Once.{Arms, Precedes, SignalsOnce}
 use Rattle.pic_machine.proofs.CompletedOnce.{named, replied}
@@ -43,16 +44,26 @@ signalled_stays w f _ t is = is
 pub signal_done : (w : State) (f t : ℕ) → t < length w.triggers → slice_get (after w f (call.Signal t)).triggers t ≡ Some Signalled
 signal_done w f t within = slice_get-set_same w.triggers t Signalled within
 
-found_signalled : (origin : Origin) (hs : List Happened) (first later : Happened) (t : ℕ) → Precedes hs first later → IsLegal origin hs → first.entry.call ≡ call.Signal t → later.entry.call ≡ call.Signal t
-    → later.entry.reply ≡ reply.Signalled Already
-found_signalled origin hs first later t order legal one two =
+-- before each later entry too
+still_signalled : (origin : Origin) (hs : List Happened) (first later : Happened) (t : ℕ) (order : Precedes hs first later) → IsLegal origin hs → first.entry.call ≡ call.Signal t
+    → slice_get (world origin (order.front ++ first ∷ order.between)).triggers t ≡ Some Signalled
+still_signalled origin hs first later t order legal one =
     let follows = first_follows origin hs first later order legal in
     let w = world origin order.front in
     let here : slice_get (after w first.entry.fiber first.entry.call).triggers t ≡ Some Signalled =
     ap (λ (call : Call). slice_get (after w first.entry.fiber call).triggers t) one ∙ signal_done w first.entry.fiber t (named origin order.front first (call.Signal t) follows one) in
-    let there : slice_get (world origin (order.front ++ first ∷ order.between)).triggers t ≡ Some Signalled =
-    holds_later (λ v. slice_get v.triggers t ≡ Some Signalled) (λ v f call allowed is. signalled_stays v f call t is) origin hs first later order legal here in
-    replied origin (order.front ++ first ∷ order.between) later (call.Signal t) (later_follows origin hs first later order legal) two ∙ ap signalled there
+    holds_later (λ v. slice_get v.triggers t ≡ Some Signalled) (λ v f call allowed is. signalled_stays v f call t is) origin hs first later order legal here
+
+-- what a later call is told that looks at the trigger
+module _ (origin : Origin) (hs : List Happened) (first later : Happened) (t : ℕ) (order : Precedes hs first later) (legal : IsLegal origin hs) (one : first.entry.call ≡ call.Signal t) where
+  found : (call : Call) (told : Option TrigState → Reply) → ((w : State) (f : ℕ) → reply_of w f call ≡ told (slice_get w.triggers t)) → later.entry.call ≡ call → later.entry.reply ≡ told (Some Signalled)
+  found call told tells is =
+      let w = world origin (order.front ++ first ∷ order.between) in
+      replied origin (order.front ++ first ∷ order.between) later call (later_follows origin hs first later order legal) is
+      ∙ (tells w later.entry.fiber ∙ ap told (still_signalled origin hs first later t order legal one))
+
+  found_signalled : later.entry.call ≡ call.Signal t → later.entry.reply ≡ reply.Signalled Already
+  found_signalled is = found (call.Signal t) signalled (λ w f. refl) is
 
 -- ---- armed once
 
@@ -123,4 +134,6 @@ signals_once origin hs t legal = record {
       let both : reply.Signalled (Acted two.action) ≡ reply.Signalled Already = sym two.reply ∙ found_signalled origin hs first later t order legal one.call two.call in
       cc;
   already = λ first later order one two. found_signalled origin hs first later t order legal one two;
+  late = λ first later action order one two. found origin hs first later t order legal one (Arm t action) armed (λ w f. refl) two;
+  seen = λ first later order one two. found origin hs first later t order legal one (Look t) seen (λ w f. refl) two;
 }

@@ -1,5 +1,5 @@
 -- What lasts: a fact that no call ends holds wherever a history leads.
-use Rattle.std.proofs.Common.{◌≡◌, ℕ, List, [], ◌∷◌, ◌++◌, sym, subst, ◌∙◌, append_assoc}
+use Rattle.std.proofs.Common.{◌≡◌, ℕ, List, [], ◌∷◌, ◌++◌, sym, subst, ◌∙◌, append_assoc, append-nil, refl}
 use Rattle.pic_machine.specs.declared.entry.Call.{Call}
 use Rattle.pic_machine.specs.Happened.{Happened}
 use Rattle.pic_machine.specs.State.{State}
@@ -13,6 +13,14 @@ module _ (P : State → Type 0) (lasts : (w : State) (f : ℕ) (call : Call) →
   pub lasts_from : (w : State) (hs : List Happened) → AreSteps w hs → P w → P (world_from w hs)
   lasts_from w [] are now = now
   lasts_from w (h ∷ hs) are now = lasts_from (after w h.entry.fiber h.entry.call) hs are.1 (lasts w h.entry.fiber h.entry.call are.0.allowed now)
+
+-- what each entry of a legal history keeps, all of them do
+module _ (P : List Happened → Type 0) (origin : Origin) (keeps : (hs : List Happened) (h : Happened) → Follows origin hs h → P hs → P (hs ++ h ∷ [])) where
+  pub along : (front back : List Happened) → IsLegal origin (front ++ back) → P front → P (front ++ back)
+  along front [] legal now = subst P (sym (append-nil front)) now
+  along front (h ∷ back) legal now =
+      let assoc : (front ++ h ∷ []) ++ back ≡ front ++ h ∷ back = append_assoc front (h ∷ []) back in
+      subst P assoc (along (front ++ h ∷ []) back (subst (IsLegal origin) (sym assoc) legal) (keeps front h (legal.each front back h refl) now))
 
 -- the first of two may follow what stood before it
 pub first_follows : (origin : Origin) (hs : List Happened) (first later : Happened) (order : Precedes hs first later) → IsLegal origin hs → Follows origin order.front first

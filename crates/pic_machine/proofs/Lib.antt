@@ -27,3 +27,8 @@ pub mod Polls
 pub mod CompletedOnce
 pub mod SignalledOnce
 pub mod Attachments
+pub mod Signallings
+pub mod Keeping
+pub mod Asleep
+pub mod Dues
+pub mod Lawfully

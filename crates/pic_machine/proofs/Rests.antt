@@ -50,7 +50,7 @@ asked_by_none (Return into branch) (Complete c o) leaves fulfils = leaves
 asked_by_none duty call leaves fulfils = fulfils
 
 -- whoever waits or ends owes nothing
-arms_nothing : (ds : List Duty) (t : ℕ) (action : Action) → DutiesAllow ds (Arm t action) → ds ≡ []
+pub arms_nothing : (ds : List Duty) (t : ℕ) (action : Action) → DutiesAllow ds (Arm t action) → ds ≡ []
 arms_nothing [] t action allow = refl
 arms_nothing (duty ∷ ds) t action allow = absurd (asked_by_none duty (Arm t action) tt allow)
 

@@ -15,7 +15,7 @@ use Rattle.pic_machine.specs.Happened.{Happened}
 use Rattle.pic_machine.specs.State.{State, world_at}
 use Rattle.pic_machine.specs.Step.{Allowed, IsLive, after, fibers_after, grown, has_room, triggers_after}
 use Rattle.pic_machine.specs.History.{Origin, IsLegal, world}
-use Rattle.pic_machine.specs.Suspending.{IsTied}
+use Rattle.pic_machine.specs.Suspending.{IsSuspended, IsTied}
 use Rattle.pic_machine.proofs.Callers.{caller_is_live}
 use Rattle.pic_machine.proofs.Fates.{steps}
 use Rattle.pic_machine.proofs.Lasting.{lasts_from}
@@ -202,8 +202,11 @@ main_waits : (place t : ℕ) → slice_get (Live ∷ []) place ≡ Some (Suspend
 main_waits zero t is = cc
 main_waits (suc place) t is = cc
 
+pub none_waits : (start : Start) (f t : ℕ) → IsSuspended (world_at start) f t → ⊥
+none_waits start f t waits = main_waits (f - 1) t waits.state
+
 pub start_tied : (start : Start) → IsTied (world_at start)
 start_tied start = record {
   resumes = λ t f is. absurd (none_awaits start.triggers t f is);
-  awaited = λ t f waits. absurd (main_waits (f - 1) t waits.state);
+  awaited = λ t f waits. absurd (none_waits start f t waits);
 }

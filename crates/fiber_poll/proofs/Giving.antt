@@ -55,6 +55,10 @@ module _ {script : Tree} {port : Sight (Option Tree)} (of : IsPortOf script port
   pub names_stand : (call : Call) → CanAsk script call → NamesStand (world port.origin port.front) call
   names_stand (asked.Peek comp) can = comp_stands comp can
   names_stand (asked.Complete comp outcome) can = comp_stands comp can
+  names_stand (asked.Look trigger) can = absurd can
+  names_stand (asked.Arm trigger action) can = absurd can
+  names_stand (asked.Signal trigger) can = absurd can
+  names_stand (asked.Attach place comp trigger) can = absurd can
   names_stand _ can = tt
 
   -- a new body of the program, with the current computation of one that is up, may become a child

@@ -75,6 +75,36 @@ pub(crate) fn call<P: Port<Body = Body>, R: ReadyLine>(
     ensures calm { OnOk result (Calm (P.sight port.old) (P.sight port.new)) }
     ensures gave_up { IfErr result (λ fault. Faulted fault (P.sight port.old) (P.sight port.new)) }
 {
+    let may_owe = ask(poller, port, line, body, spot, stmt)?;
+    if may_owe {
+        discharge(port, line, body)?;
+    }
+    Ok(())
+}
+
+/// Makes the call and ends the statement by its reply. Answers whether the fiber may owe something then.
+fn ask<P: Port<Body = Body>, R: ReadyLine>(
+    poller: &ScriptPoller,
+    port: &mut P,
+    line: &mut R,
+    body: &mut Body,
+    spot: Spot,
+    stmt: &Stmt,
+) -> Result<bool, PortFault>
+    requires port_of { IsPortOf poller.now (P.sight port.old) }
+    requires up { IsUp (P.sight port.old) body.old }
+    requires free { body.old.owes ≡ [] }
+    requires before { IsBefore body.old spot stmt.now }
+    requires not_done { result_of body.old.context.registers body.old.context.cells stmt.now ≡ None }
+    requires calls { first body.old.context stmt.now ≡ calls stmt.now }
+    requires no_yield { stmt.now ≢ Stmt.Yield }
+    requires can { CanRun poller.now stmt.now }
+    ensures on { IsOn (P.sight port.old) (P.sight port.new) body.old body.new (R.told line.old) (R.told line.new) }
+    ensures lighter { OnOk result (weight body.new < weight body.old) }
+    ensures free { IfOk result (λ may_owe. OnFalse may_owe (body.new.owes ≡ [])) }
+    ensures calm { OnOk result (Calm (P.sight port.old) (P.sight port.new)) }
+    ensures gave_up { IfErr result (λ fault. Faulted fault (P.sight port.old) (P.sight port.new)) }
+{
     let Some(call) = call_of(&poller.numbers, body, stmt) else {
         unreachable!("the statement is built");
     };
@@ -83,10 +113,7 @@ pub(crate) fn call<P: Port<Body = Body>, R: ReadyLine>(
     }
     let reply = make(poller, port, line, body, call)?;
     take(body, spot, stmt, reply);
-    if brings_duties(call) {
-        discharge(port, line, body)?;
-    }
-    Ok(())
+    Ok(brings_duties(call))
 }
 
 /// Whether a fiber may owe something behind the call that owed nothing before it.

@@ -48,6 +48,13 @@ module _ {S : Type 0} (p : Sight S) (a : Carry S) where
       let w = world p.origin p.front in
       (subst (AllByRecursion (IsSignal w)) (sym holds.owes ∙ first_of a.owes d is) (dues p.origin p.front (fiber_of a) start holds.legal)).0
 
+  -- so it is no other duty
+  pub no_other : (d : Duty) → IsStart p.origin.world → Holds p a → Some d ≡ slice_get a.owes 0 → ((t : ℕ) → d ≡ duty.Signal t → ⊥) → ⊥
+  no_other d start holds is not_signal = one_on d (first_stands d start holds is) not_signal where
+    one_on : (e : Duty) → IsSignal (world p.origin p.front) e → ((t : ℕ) → e ≡ duty.Signal t → ⊥) → ⊥
+    one_on (duty.Signal t) stands not_signal = not_signal t refl
+    one_on _ stands not_signal = stands
+
   -- so it may be made
   pub may_signal : (t : ℕ) → IsStart p.origin.world → Holds p a → Some (duty.Signal t) ≡ slice_get a.owes 0 → MayMake p.origin p.front (fiber_of a) (Signal t)
   may_signal t start holds is =

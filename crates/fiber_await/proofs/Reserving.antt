@@ -29,6 +29,9 @@ module _ {S : Type 0} (p : Sight S) (a r : Carry S) where
   pub holds_reserved : Holds p a → Notes a r [] → Holds p r
   holds_reserved holds notes = (spared_reserved holds notes).holds
 
+  pub refuses_reserved : Holds p a → Notes a r [] → Refuses Memory p p a r
+  refuses_reserved holds notes = (spared_reserved holds notes, refl)
+
   pub can_reserved : (call : Call) → Holds p a → MayMake p.origin p.front (fiber_of a) call → Notes a r [] → 0 < r.room → CanMake p r call
   can_reserved call holds may notes room = record {
     holds = holds_reserved holds notes;

@@ -1,10 +1,16 @@
+use Rattle.std.proofs.Common.{refl}
+use Rattle.std.proofs.lemmas.Result.{err_from_is_err_and}
+use Rattle.fiber_await.proofs.Halving.{checked, unchecked, waiting_still}
+use Rattle.fiber_await.proofs.Running.{did_none}
 use Rattle.fiber_await.proofs.suspending.unsuspend.Goals as goal
 
 pub returns-then-not-s-clause-ran : goal.returns-then-not-s-clause-ran
-returns-then-not-s-clause-ran g c = ?
+returns-then-not-s-clause-ran g c trigger = waiting_still _ _ _ _ _ _ _ _ (unchecked _ _ _ _ _ c.if-not-s.true) (did_none _ _ c.requires.free)
 
 pub returns-in_err-peek-clause-ran : goal.returns-in_err-peek-clause-ran
-returns-in_err-peek-clause-ran g c = ?
+returns-in_err-peek-clause-ran g c trigger =
+    let p = err_from_is_err_and c.from_residual.result c.from_residual.ensures.1 in
+    waiting_still _ _ _ _ _ _ _ _ (rw p.1 refl) c.in_err-peek.ensures.refused.0
 
 pub returns-clause-ran : goal.returns-clause-ran
-returns-clause-ran g c = ?
+returns-clause-ran g c trigger = ?

@@ -37,6 +37,10 @@ peek_leads s None = refl
 peek_leads s (Some (Returned value)) = refl
 peek_leads s (Some (Cancelled code)) = refl
 
+-- a fiber that isn't told of a cancellation doesn't look
+pub unchecked : (s : Standing) → s.permitted ≡ false → awake s ≡ over woken
+unchecked s off = rw off refl
+
 module _ {S : Type 0} (p q : Sight S) (a b : Carry S) (s : Standing) where
   -- no call was made, or it was refused
   pub waiting_still : (t : ℕ) (x y : Waiting) → x ≡ y → Did p q a b [] → Ran (waiting s (fiber_of a) t) p q a b x y
@@ -58,6 +62,3 @@ module _ {S : Type 0} (p q : Sight S) (a b : Carry S) (s : Standing) where
       subst (λ (x : Waiting). Ran (waiting s (fiber_of a) t) p q a b x (unsuspended_at s (Ok tells))) (sym start)
       (subst (λ (r : Ahead). Ran (waiting s (fiber_of a) t) p q a b checking (unsuspended_at s (Ok r))) (sym is)
       (ran_one (waiting s (fiber_of a) t) p q a b checking (unsuspended_at s (Ok (peek_tells seen))) (Peek s.current) (reply.Peeked seen) refl (peek_leads s seen) did))
-
-  pub unchecked : s.permitted ≡ false → awake s ≡ over woken
-  unchecked off = rw off refl

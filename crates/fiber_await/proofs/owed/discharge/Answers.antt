@@ -1,11 +1,11 @@
-use Rattle.std.proofs.Common.{List, length, slice_get, refl, sym, ap, ◌∙◌, arith}
+use Rattle.std.proofs.Common.{List, length, slice_get, refl, sym, ap, ◌∙◌, arith, rules}
 use Rattle.pic_base.specs.declared.duty.Duty.{Duty}
 use Rattle.fiber_await.proofs.Freeing.{owes_spared}
 use Rattle.fiber_await.proofs.Fulfilling.{Discharged-trans, discharged_none, discharged_spared, none_first, own_discharged}
 use Rattle.fiber_await.proofs.owed.discharge.Goals as goal
 
 pub loop-duty-init : goal.loop-duty-init
-loop-duty-init g c = record { done = discharged_none _ _ _ c.requires; calm = refl; rest = let h = g.met.P.Body in ? }
+loop-duty-init g c = record { done = discharged_none _ _ _ c.requires; calm = refl; rest = search rules }
 
 pub fulfil-requires-clause-first : goal.fulfil-requires-clause-first
 fulfil-requires-clause-first g c κs within =
@@ -18,7 +18,7 @@ pub loop-duty-preserved : goal.loop-duty-preserved
 loop-duty-preserved g c = record {
   done = Discharged-trans _ _ _ _ _ _ _ _ _ c.loop-duty.invariant.done (Discharged-trans _ _ _ _ _ _ _ _ _ (discharged_spared _ _ _ _ _ c.walk_next.ensures.spared) c.fulfil.ensures.discharged);
   calm = c.in_ok-fulfil.ensures.calm ∙ (c.walk_next.ensures.calm ∙ c.loop-duty.invariant.calm);
-  rest = ?;
+  rest = search rules;
 }
 
 pub returns-in_err-fulfil-clause-discharged : goal.returns-in_err-fulfil-clause-discharged
@@ -30,7 +30,7 @@ returns-in_err-fulfil-clause-own g c =
     own_discharged _ _ _ _ _ _ (Discharged-trans _ _ _ _ _ _ _ _ _ c.loop-duty.invariant.done (Discharged-trans _ _ _ _ _ _ _ _ _ (discharged_spared _ _ _ _ _ c.walk_next.ensures.spared) c.fulfil.ensures.discharged))
 
 pub returns-in_err-fulfil-clause-rest : goal.returns-in_err-fulfil-clause-rest
-returns-in_err-fulfil-clause-rest g c = ?
+returns-in_err-fulfil-clause-rest g c = let h = c.loop-duty.invariant.rest in search rules
 
 pub returns-clause-discharged : goal.returns-clause-discharged
 returns-clause-discharged g c = Discharged-trans _ _ _ _ _ _ _ _ _ c.loop-duty.invariant.done (discharged_spared _ _ _ _ _ c.walk_next.ensures.spared)
@@ -43,4 +43,4 @@ returns-clause-owes g c =
     owes_spared _ _ _ _ c.loop-duty.invariant.done.went.holds.owes c.walk_next.ensures.spared ∙ none_first _ (sym c.in_default.is ∙ c.walk_next.ensures.first)
 
 pub returns-clause-rest : goal.returns-clause-rest
-returns-clause-rest g c = ?
+returns-clause-rest g c = let law = (g.met.P.Body.Carried g.world.𝓛 g.world.𝓜 g.world.𝓡 ((λ s x. x), (λ x. x), (λ x. x), λ x. x)).rest_after in ?

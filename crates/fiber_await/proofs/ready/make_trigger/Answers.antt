@@ -7,19 +7,19 @@ use Rattle.fiber_await.proofs.Running.{did_none}
 use Rattle.fiber_await.proofs.ready.make_trigger.Goals as goal
 
 pub returns-then-parts-ne-NOTHING-clause-ran : goal.returns-then-parts-ne-NOTHING-clause-ran
-returns-then-parts-ne-NOTHING-clause-ran g c = making_still _ _ _ _ _ _ (did_none _ _ c.requires.free)
+returns-then-parts-ne-NOTHING-clause-ran g c = making_still _ _ _ _ c.args.s.now c.args.parts.now (did_none _ _ c.requires.free)
 
 pub returns-then-s-clause-ran : goal.returns-then-s-clause-ran
-returns-then-s-clause-ran g c = permitted_trigger _ _ _ _ _ _ c.in-Ok.trigger c.if-parts-ne-NOTHING.false c.if-s.true c.in-Ok.ensures.did
+returns-then-s-clause-ran g c = permitted_trigger _ _ _ _ c.args.s.now c.args.parts.now c.in-Ok.trigger c.if-parts-ne-NOTHING.false c.if-s.true c.in-Ok.ensures.did
 
 pub returns-else-s-clause-ran : goal.returns-else-s-clause-ran
-returns-else-s-clause-ran g c = forbidden_trigger _ _ _ _ _ _ c.in-Ok.trigger c.if-parts-ne-NOTHING.false c.if-s.false c.in-Ok.ensures.did
+returns-else-s-clause-ran g c = forbidden_trigger _ _ _ _ c.args.s.now c.args.parts.now c.in-Ok.trigger c.if-parts-ne-NOTHING.false c.if-s.false c.in-Ok.ensures.did
 
 pub returns-in-Err-Full-clause-ran : goal.returns-in-Err-Full-clause-ran
-returns-in-Err-Full-clause-ran g c = full_trigger _ _ _ _ _ _ c.if-parts-ne-NOTHING.false (subst (λ (fault : PortFault). RefusedMaking fault (g.P.Port.sight c.args.port.now) (g.P.Port.sight c.new_trigger.new.port) (g.P.Body.Carried.seen c.args.body.now) (g.P.Body.Carried.seen c.new_trigger.new.body) NewTrigger) c.in-Err-Full.field-0-is c.in-Err-Full.ensures.refused).0
+returns-in-Err-Full-clause-ran g c = full_trigger _ _ _ _ c.args.s.now c.args.parts.now c.if-parts-ne-NOTHING.false (subst (λ (fault : PortFault). RefusedMaking fault (g.P.Port.sight c.args.port.now) (g.P.Port.sight c.new_trigger.new.port) (g.P.Body.Carried.seen c.args.body.now) (g.P.Body.Carried.seen c.new_trigger.new.body) NewTrigger) c.in-Err-Full.field-0-is c.in-Err-Full.ensures.refused).0
 
 pub returns-in-Err-Again-clause-ran : goal.returns-in-Err-Again-clause-ran
-returns-in-Err-Again-clause-ran g c = making_still _ _ _ _ _ _ (subst (λ (fault : PortFault). RefusedMaking fault (g.P.Port.sight c.args.port.now) (g.P.Port.sight c.new_trigger.new.port) (g.P.Body.Carried.seen c.args.body.now) (g.P.Body.Carried.seen c.new_trigger.new.body) NewTrigger) c.in-Err-Again.field-0-is c.in-Err-Again.ensures.refused).0
+returns-in-Err-Again-clause-ran g c = making_still _ _ _ _ c.args.s.now c.args.parts.now (subst (λ (fault : PortFault). RefusedMaking fault (g.P.Port.sight c.args.port.now) (g.P.Port.sight c.new_trigger.new.port) (g.P.Body.Carried.seen c.args.body.now) (g.P.Body.Carried.seen c.new_trigger.new.body) NewTrigger) c.in-Err-Again.field-0-is c.in-Err-Again.ensures.refused).0
 
 pub returns-in-Err-Memory-clause-ran : goal.returns-in-Err-Memory-clause-ran
-returns-in-Err-Memory-clause-ran g c = making_still _ _ _ _ _ _ (subst (λ (fault : PortFault). RefusedMaking fault (g.P.Port.sight c.args.port.now) (g.P.Port.sight c.new_trigger.new.port) (g.P.Body.Carried.seen c.args.body.now) (g.P.Body.Carried.seen c.new_trigger.new.body) NewTrigger) c.in-Err-Memory.field-0-is c.in-Err-Memory.ensures.refused).0
+returns-in-Err-Memory-clause-ran g c = making_still _ _ _ _ c.args.s.now c.args.parts.now (subst (λ (fault : PortFault). RefusedMaking fault (g.P.Port.sight c.args.port.now) (g.P.Port.sight c.new_trigger.new.port) (g.P.Body.Carried.seen c.args.body.now) (g.P.Body.Carried.seen c.new_trigger.new.body) NewTrigger) c.in-Err-Memory.field-0-is c.in-Err-Memory.ensures.refused).0

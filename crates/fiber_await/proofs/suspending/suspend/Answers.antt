@@ -23,4 +23,6 @@ returns-in-Go-clause-ran g c =
     (ap (λ (o : Option ℕ). unwrap_or o 0) c.in-Some-trigger.is) c.in_ok-attach.ensures.did
 
 pub returns-in-Cancelled-clause-ran : goal.returns-in-Cancelled-clause-ran
-returns-in-Cancelled-clause-ran g c = ?
+returns-in-Cancelled-clause-ran g c =
+    attached _ _ _ _ _ c.args.parts.now c.in-Some-trigger.trigger c.in-Some.place c.in_ok-attach.field-0 _ (not_attached c.args.parts.now.at c.requires.at c.if-parts-eq-ATTACHED.false) c.in-Some.is c.in-Cancelled.ensures
+    (ap (λ (o : Option ℕ). unwrap_or o 0) c.in-Some-trigger.is) c.in_ok-attach.ensures.did

@@ -1,5 +1,5 @@
 -- Duties, fulfilled one after another.
-use Rattle.std.proofs.Common.{◌≡◌, ℕ, ◌+◌, ◌<◌, cond, not, true, false, Bool, Option, Some, None, List, [], ◌∷◌, ◌++◌, length, slice_get, refl, sym, ap, subst, ◌∙◌, append-nil, arith}
+use Rattle.std.proofs.Common.{◌≡◌, ℕ, ◌+◌, cond, not, true, false, Bool, Option, Some, None, List, [], ◌∷◌, ◌++◌, length, slice_get, refl, sym, ap, subst, ◌∙◌, append-nil, arith}
 use Rattle.std.specs.List.{AllByRecursion}
 use Rattle.pic_base.specs.declared.action.Action.TheVariants.{Resume}
 use Rattle.pic_base.specs.declared.duty.Duty.{Duty}
@@ -10,28 +10,29 @@ use Rattle.pic_machine.specs.declared.entry.SignalReply.{SignalReply}
 use Rattle.pic_machine.specs.declared.entry.SignalReply.TheVariants.{Plain, Acted, Already}
 use Rattle.pic_machine.specs.Duty.{ClockMakes, DutiesAllow, fulfilled, is_owing}
 use Rattle.pic_machine.specs.Happened.{Happened}
-use Rattle.pic_machine.specs.History.{Follows, IsLegal, MayMake, Origin, happening, world}
+use Rattle.pic_machine.specs.History.{IsLegal, MayMake, Origin, happening, world}
 use Rattle.pic_machine.specs.Lending.{Answered, Lent, Spared}
 use Rattle.pic_machine.specs.Log.{is_due, log, own}
 use Rattle.pic_machine.specs.Order.{GoesOn, readied}
 use Rattle.pic_machine.specs.Sight.{Carry, Holds, Sight, fiber_of}
-use Rattle.pic_machine.specs.State.{IsStart, State, owed_of}
+use Rattle.pic_machine.specs.State.{IsStart, State, owed_of, world_at}
 use Rattle.pic_machine.specs.Turning.{Adds, Grew}
-use Rattle.pic_machine.proofs.Counts.{counts_start, owed_push}
+use Rattle.pic_machine.proofs.Dues.{AreSignalsOf, IsSignalOf, starts_dues}
+use Rattle.pic_machine.proofs.Lendings.{lent_leaves, signal_leaves}
 use Rattle.pic_machine.proofs.Lists.{each-append}
 use Rattle.pic_machine.proofs.Owns.{own-append}
 use Rattle.pic_machine.proofs.Turns.{Adds-nil, Adds-trans, Grew-trans, grew_made, grew_others, grew_same, readied-append, same_fiber}
 use Rattle.fiber_await.specs.Discharging.{Discharged, resumed_by}
-use Rattle.fiber_await.proofs.Freeing.{legal_behind, owes_before, owes_behind}
 
 -- ---- what duties there can be
 
-abbrev pub IsSignal : State → Duty → Type 0
-IsSignal w (duty.Signal t) = t < length w.triggers
-IsSignal w _ = ⊥
-
-dues : (origin : Origin) (hs : List Happened) (f : ℕ) → IsStart origin.world → IsLegal origin hs → AllByRecursion (IsSignal (world origin hs)) (owed_of (world origin hs) f)
-dues origin hs f start legal = ?
+-- all that anybody owes is signals of triggers that stand
+dues : (origin : Origin) (hs : List Happened) (f : ℕ) → IsStart origin.world → IsLegal origin hs → AreSignalsOf (length (world origin hs).triggers) (owed_of (world origin hs) f)
+dues origin hs f start legal =
+    let at : State → Origin = λ w. record { world = w; main = origin.main } in
+    let same : at (world_at start.start) ≡ origin = ap at (sym start.is) in
+    subst (λ (o : Origin). AreSignalsOf (length (world o hs).triggers) (owed_of (world o hs) f)) same
+    (starts_dues start.start origin.main hs f (subst (λ (o : Origin). IsLegal o hs) (sym same) legal))
 
 pub first_of : (ds : List Duty) (d : Duty) → Some d ≡ slice_get ds 0 → ds ≡ d ∷ fulfilled ds
 first_of [] d is = absurd cc
@@ -43,15 +44,14 @@ none_first (d ∷ ds) is = absurd cc
 
 module _ {S : Type 0} (p : Sight S) (a : Carry S) where
   -- the first one is the signal of a trigger that stands
-  pub first_stands : (d : Duty) → IsStart p.origin.world → Holds p a → Some d ≡ slice_get a.owes 0 → IsSignal (world p.origin p.front) d
+  pub first_stands : (d : Duty) → IsStart p.origin.world → Holds p a → Some d ≡ slice_get a.owes 0 → IsSignalOf (length (world p.origin p.front).triggers) d
   first_stands d start holds is =
-      let w = world p.origin p.front in
-      (subst (AllByRecursion (IsSignal w)) (sym holds.owes ∙ first_of a.owes d is) (dues p.origin p.front (fiber_of a) start holds.legal)).0
+      (subst (AreSignalsOf (length (world p.origin p.front).triggers)) (sym holds.owes ∙ first_of a.owes d is) (dues p.origin p.front (fiber_of a) start holds.legal)).0
 
   -- so it is no other duty
   pub no_other : (d : Duty) → IsStart p.origin.world → Holds p a → Some d ≡ slice_get a.owes 0 → ((t : ℕ) → d ≡ duty.Signal t → ⊥) → ⊥
   no_other d start holds is not_signal = one_on d (first_stands d start holds is) not_signal where
-    one_on : (e : Duty) → IsSignal (world p.origin p.front) e → ((t : ℕ) → e ≡ duty.Signal t → ⊥) → ⊥
+    one_on : (e : Duty) → IsSignalOf (length (world p.origin p.front).triggers) e → ((t : ℕ) → e ≡ duty.Signal t → ⊥) → ⊥
     one_on (duty.Signal t) stands not_signal = not_signal t refl
     one_on _ stands not_signal = stands
 
@@ -149,10 +149,7 @@ module _ {S : Type 0} (p q : Sight S) (a b : Carry S) (t : ℕ) (how : SignalRep
   }
 
   -- one duty less is owed
-  pub fewer_owed : IsStart p.origin.world → a.owes ≡ owed_of (world p.origin p.front) (fiber_of a) → length a.owes ≡ length b.owes + 1
-  fewer_owed start owes =
-      let hs = p.front ++ lent.made.others in
-      let follows : Follows p.origin hs h = (legal_behind p q a b h lent).each hs [] h refl in
-      let left : b.owes ≡ fulfilled a.owes =
-      owes_behind p q a b h refl lent ∙ (owed_push p.origin hs h (counts_start p.origin.world start) follows ∙ ap fulfilled (owes_before p q a b h refl owes lent)) in
+  pub fewer_owed : IsStart p.origin.world → Holds p a → length a.owes ≡ length b.owes + 1
+  fewer_owed start holds =
+      let left : b.owes ≡ fulfilled a.owes = signal_leaves a b (fiber_of a) t (Signalled how) (lent_leaves p q a b h start holds lent refl) in
       omega (arith, ap length (first_of a.owes (duty.Signal t) first), ap length left)

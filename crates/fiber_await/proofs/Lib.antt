@@ -1,6 +1,6 @@
 pub mod Answering
 pub mod Reserving
-pub mod Freeing
+pub mod Calling
 pub mod Running
 pub mod Readying
 pub mod Halving

@@ -1,7 +1,7 @@
 use Rattle.std.proofs.Common.{refl}
 use Rattle.pic_machine.specs.declared.entry.Call.TheVariants.{NewPlace}
 use Rattle.pic_machine.specs.declared.entry.Reply.TheVariants as reply
-use Rattle.fiber_await.proofs.Freeing.{each_called, each_refused_making}
+use Rattle.fiber_await.proofs.Calling.{each_called, each_refused_making}
 use Rattle.fiber_await.proofs.calls.new_place.Goals as goal
 
 pub returns-clause-did : goal.returns-clause-did

@@ -1,7 +1,7 @@
 use Rattle.std.proofs.Common.{refl}
 use Rattle.pic_machine.specs.declared.entry.Call.TheVariants.{Peek}
 use Rattle.pic_machine.specs.declared.entry.Reply.TheVariants as reply
-use Rattle.fiber_await.proofs.Freeing.{each_answered, each_refused}
+use Rattle.fiber_await.proofs.Calling.{each_answered, each_refused}
 use Rattle.fiber_await.proofs.calls.peek.Goals as goal
 
 pub returns-clause-did : goal.returns-clause-did

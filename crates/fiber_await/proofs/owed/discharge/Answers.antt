@@ -1,6 +1,6 @@
 use Rattle.std.proofs.Common.{List, length, slice_get, refl, sym, ap, ◌∙◌, arith}
 use Rattle.pic_base.specs.declared.duty.Duty.{Duty}
-use Rattle.fiber_await.proofs.Freeing.{owes_spared}
+use Rattle.fiber_await.proofs.Calling.{owes_spared}
 use Rattle.fiber_await.proofs.Fulfilling.{Discharged-trans, discharged_none, discharged_spared, none_first, own_discharged}
 use Rattle.fiber_await.proofs.owed.discharge.Goals as goal
 

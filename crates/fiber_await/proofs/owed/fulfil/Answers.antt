@@ -18,4 +18,4 @@ returns-clause-discharged g c =
 pub returns-clause-fewer : goal.returns-clause-fewer
 returns-clause-fewer g c =
     fewer_owed (g.P.Port.sight c.args.port.now) (g.P.Port.sight c.signal.new.port) (g.P.Body.Carried.seen c.args.body.now) (g.P.Body.Carried.seen c.signal.new.body)
-    c.in-Signal.trigger c.in_ok-how.how (ap Some (sym c.in-Signal.is) ∙ c.requires.first) c.in_ok-how.ensures.made (g.met.P.Port.starts c.args.port.now) c.requires.holds.owes
+    c.in-Signal.trigger c.in_ok-how.how (ap Some (sym c.in-Signal.is) ∙ c.requires.first) c.in_ok-how.ensures.made (g.met.P.Port.starts c.args.port.now) c.requires.holds

@@ -1,5 +1,5 @@
 -- What one call of a port did, of a fiber that owes nothing.
-use Rattle.std.proofs.Common.{◌≡◌, ◌≢◌, ℕ, false, List, [], ◌∷◌, ◌++◌, refl, sym, ap, subst, ◌∙◌, append_assoc}
+use Rattle.std.proofs.Common.{◌≡◌, ◌≢◌, ℕ, false, List, [], ◌∷◌, ◌++◌, refl, sym, ap, subst, ◌∙◌}
 use Rattle.std.specs.Prelude.{Result, IfOk, IfErr}
 use Rattle.pic_machine.specs.declared.entry.Call.{Call}
 use Rattle.pic_machine.specs.declared.entry.Reply.{Reply}
@@ -9,16 +9,14 @@ use Rattle.pic_machine.specs.declared.port.PortFault.TheVariants.{Full, Again, M
 use Rattle.pic_machine.specs.Duty.{BringsNone}
 use Rattle.pic_machine.specs.Happened.{Happened}
 use Rattle.pic_machine.specs.History.{IsLegal, Origin, event, world}
-use Rattle.pic_machine.specs.Lending.{Answered, Called, Lent, Refuses, RefusesMaking, Spared}
-use Rattle.pic_machine.specs.Log.{Others, is_turn}
+use Rattle.pic_machine.specs.Lending.{Answered, Called, Refuses, RefusesMaking, Spared}
+use Rattle.pic_machine.specs.Log.{is_turn}
 use Rattle.pic_machine.specs.Order.{readied_by, stops}
 use Rattle.pic_machine.specs.Sight.{Carry, Notes, Sight, fiber_of}
-use Rattle.pic_machine.specs.State.{State, owed_of}
-use Rattle.pic_machine.specs.Step.{after}
-use Rattle.pic_machine.proofs.Histories.{IsLegal-front, world-push}
+use Rattle.pic_machine.specs.State.{owed_of}
+use Rattle.pic_machine.proofs.Freeing.{lent_free}
 use Rattle.pic_machine.proofs.Owns.{answered_called}
 use Rattle.pic_machine.proofs.Staying.{owed_stays}
-use Rattle.pic_machine.proofs.Steps.{free_after}
 use Rattle.pic_machine.proofs.Turns.{grew_made, grew_others, same_fiber}
 use Rattle.fiber_await.specs.Doing.{Did, IsFree}
 use Rattle.fiber_await.specs.Refusing.{Refused, RefusedMaking}
@@ -26,24 +24,6 @@ use Rattle.fiber_await.proofs.Answering.{on_err, on_ok}
 use Rattle.fiber_await.proofs.Reserving.{answered_behind, called_behind, refuses_behind, refuses_making_behind}
 
 module _ {S : Type 0} (p q : Sight S) (a b : Carry S) where
-  pub legal_behind : (h : Happened) → (lent : Lent p q a b h) → IsLegal p.origin ((p.front ++ lent.made.others) ++ h ∷ [])
-  legal_behind h lent =
-      let assoc : q.front ≡ (p.front ++ lent.made.others) ++ h ∷ [] = lent.made.later.front ∙ sym (append_assoc p.front lent.made.others (h ∷ [])) in
-      subst (IsLegal p.origin) assoc (subst (λ (o : Origin). IsLegal o q.front) lent.made.later.origin lent.made.legal)
-
-  -- what the fiber owes behind its own call
-  pub owes_behind : (h : Happened) → h.entry.fiber ≡ fiber_of a → (lent : Lent p q a b h) → b.owes ≡ owed_of (world p.origin ((p.front ++ lent.made.others) ++ h ∷ [])) (fiber_of a)
-  owes_behind h mine lent =
-      let assoc : q.front ≡ (p.front ++ lent.made.others) ++ h ∷ [] = lent.made.later.front ∙ sym (append_assoc p.front lent.made.others (h ∷ [])) in
-      lent.holds.owes ∙ (ap (λ (n : ℕ). owed_of (world q.origin q.front) n) (same_fiber a b lent.number)
-      ∙ (ap (λ (o : Origin). owed_of (world o q.front) (fiber_of a)) lent.made.later.origin ∙ ap (λ (hs : List Happened). owed_of (world p.origin hs) (fiber_of a)) assoc))
-
-  -- and before it, whatever others did
-  pub owes_before : (h : Happened) → h.entry.fiber ≡ fiber_of a → a.owes ≡ owed_of (world p.origin p.front) (fiber_of a) → (lent : Lent p q a b h) → owed_of (world p.origin (p.front ++ lent.made.others)) (fiber_of a) ≡ a.owes
-  owes_before h mine owes lent =
-      owed_stays p.origin p.front lent.made.others (fiber_of a) (IsLegal-front p.origin (p.front ++ lent.made.others) (h ∷ []) (legal_behind h lent))
-      (subst (λ (f : ℕ). Others f lent.made.others) mine lent.made.not_mine) ∙ sym owes
-
   -- what a body owes that a call spared
   pub owes_spared : a.owes ≡ owed_of (world p.origin p.front) (fiber_of a) → Spared p q a b → b.owes ≡ a.owes
   owes_spared owes spared =
@@ -74,9 +54,7 @@ module _ {S : Type 0} (p q : Sight S) (a b : Carry S) where
         free = record {
           holds = called.holds;
           fiber = subst (λ (n : ℕ). n ≢ 0) (sym (same_fiber a b called.number)) free.fiber;
-          owes = owes_behind p q a b h refl called
-              ∙ (ap (λ (w : State). owed_of w f) (world-push p.origin (p.front ++ called.made.others) h)
-              ∙ free_after (world p.origin (p.front ++ called.made.others)) f call quiet.brings (owes_before p q a b h refl free.holds.owes called ∙ free.owes));
+          owes = lent_free p q a b h called free.holds refl quiet.brings free.owes;
         };
         number = called.number;
         birth = called.birth;

@@ -32,3 +32,5 @@ pub mod Keeping
 pub mod Asleep
 pub mod Dues
 pub mod Lawfully
+pub mod Freeing
+pub mod Lendings

@@ -107,6 +107,12 @@ module _ {S : Type 0} (p q r : Sight S) (a b c : Carry S) (start now later : Opt
         share = other.share ∙ one.share;
       }
 
+module _ {S : Type 0} (p q r t : Sight S) (a b c d : Carry S) (start now later : Option (List ℕ)) where
+  -- one more part, behind a call that made no entry
+  pub discharged_more : Discharged p q a b start now → Spared q r b c → Discharged r t c d now later → Discharged p t a d start later
+  discharged_more one spared other =
+      Discharged-trans p q t a b d start now later one (Discharged-trans q r t b c d now now later (discharged_spared q r b c now spared) other)
+
 -- entries that fulfil duties are no own ones
 own_none : (hs : List Happened) → AllByRecursion (λ h. is_due h ≡ true) hs → own hs ≡ []
 own_none [] due = refl

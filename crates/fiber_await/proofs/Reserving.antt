@@ -26,19 +26,11 @@ module _ {S : Type 0} (p : Sight S) (a r : Carry S) where
       let kept : Kept p p = record { grown = record { others = []; none = λ alone. refl; later = later_same p; legal = holds.legal }; out = refl } in
       spared p p a r kept tt holds (same_reserved notes) notes.owes
 
-  pub holds_reserved : Holds p a → Notes a r [] → Holds p r
-  holds_reserved holds notes = (spared_reserved holds notes).holds
-
+  -- and memory was wanted for it
   pub refuses_reserved : Holds p a → Notes a r [] → Refuses Memory p p a r
   refuses_reserved holds notes = (spared_reserved holds notes, refl)
 
-  pub can_reserved : (call : Call) → Holds p a → MayMake p.origin p.front (fiber_of a) call → Notes a r [] → 0 < r.room → CanMake p r call
-  can_reserved call holds may notes room = record {
-    holds = holds_reserved holds notes;
-    may = subst (λ (f : ℕ). MayMake p.origin p.front f call) (sym (same_fiber a r notes.number)) may;
-    room = room;
-  }
-
+-- what was done to the body with more room was done to the body
 module _ {S : Type 0} (p q : Sight S) (a r b : Carry S) where
   lent_behind : (h : Happened) → Notes a r [] → Lent p q r b h → Lent p q a b h
   lent_behind h notes lent = record {

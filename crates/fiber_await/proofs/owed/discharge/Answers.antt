@@ -1,7 +1,7 @@
 use Rattle.std.proofs.Common.{List, length, slice_get, refl, sym, ap, ◌∙◌, arith}
 use Rattle.pic_base.specs.declared.duty.Duty.{Duty}
 use Rattle.fiber_await.proofs.Calling.{owes_spared}
-use Rattle.fiber_await.proofs.Fulfilling.{Discharged-trans, discharged_none, discharged_spared, none_first, own_discharged}
+use Rattle.fiber_await.proofs.Fulfilling.{Discharged-trans, discharged_more, discharged_none, discharged_spared, none_first, own_discharged}
 use Rattle.fiber_await.proofs.owed.discharge.Goals as goal
 
 -- A body may be sent to where other laws of memory hold, so its own laws are told for wherever it is: here
@@ -21,18 +21,18 @@ pub loop-duty-preserved : goal.loop-duty-preserved
 loop-duty-preserved g c =
     let laws = (g.met.P.Body.Carried g.world.𝓛 g.world.𝓜 g.world.𝓡 ((λ s x. x), (λ x. x), (λ x. x), λ x. x)) in
     record {
-      done = Discharged-trans _ _ _ _ _ _ _ _ _ c.loop-duty.invariant.done (Discharged-trans _ _ _ _ _ _ _ _ _ (discharged_spared _ _ _ _ _ c.walk_next.ensures.spared) c.fulfil.ensures.discharged);
+      done = discharged_more _ _ _ _ _ _ _ _ _ _ _ c.loop-duty.invariant.done c.walk_next.ensures.spared c.fulfil.ensures.discharged;
       calm = c.in_ok-fulfil.ensures.calm ∙ (c.walk_next.ensures.calm ∙ c.loop-duty.invariant.calm);
       rest = laws.rest_after _ _ _ c.loop-duty.invariant.rest (laws.rest_after _ _ _ c.walk_next.ensures.rest c.fulfil.ensures.rest);
     }
 
 pub returns-in_err-fulfil-clause-discharged : goal.returns-in_err-fulfil-clause-discharged
 returns-in_err-fulfil-clause-discharged g c =
-    Discharged-trans _ _ _ _ _ _ _ _ _ c.loop-duty.invariant.done (Discharged-trans _ _ _ _ _ _ _ _ _ (discharged_spared _ _ _ _ _ c.walk_next.ensures.spared) c.fulfil.ensures.discharged)
+    discharged_more _ _ _ _ _ _ _ _ _ _ _ c.loop-duty.invariant.done c.walk_next.ensures.spared c.fulfil.ensures.discharged
 
 pub returns-in_err-fulfil-clause-own : goal.returns-in_err-fulfil-clause-own
 returns-in_err-fulfil-clause-own g c =
-    own_discharged _ _ _ _ _ _ (Discharged-trans _ _ _ _ _ _ _ _ _ c.loop-duty.invariant.done (Discharged-trans _ _ _ _ _ _ _ _ _ (discharged_spared _ _ _ _ _ c.walk_next.ensures.spared) c.fulfil.ensures.discharged))
+    own_discharged _ _ _ _ _ _ (discharged_more _ _ _ _ _ _ _ _ _ _ _ c.loop-duty.invariant.done c.walk_next.ensures.spared c.fulfil.ensures.discharged)
 
 pub returns-in_err-fulfil-clause-rest : goal.returns-in_err-fulfil-clause-rest
 returns-in_err-fulfil-clause-rest g c =

@@ -1,7 +1,3 @@
-use Rattle.std.proofs.Common.{subst}
-use Rattle.pic_machine.specs.declared.entry.Call.TheVariants.{NewTrigger}
-use Rattle.pic_machine.specs.declared.port.PortFault.{PortFault}
-use Rattle.fiber_await.specs.Refusing.{RefusedMaking}
 use Rattle.fiber_await.proofs.Readying.{forbidden_trigger, full_trigger, making_still, permitted_trigger}
 use Rattle.fiber_await.proofs.Running.{did_none}
 use Rattle.fiber_await.proofs.ready.make_trigger.Goals as goal
@@ -16,10 +12,10 @@ pub returns-else-s-clause-ran : goal.returns-else-s-clause-ran
 returns-else-s-clause-ran g c = forbidden_trigger _ _ _ _ c.args.s.now c.args.parts.now c.in-Ok.trigger c.if-parts-ne-NOTHING.false c.if-s.false c.in-Ok.ensures.did
 
 pub returns-in-Err-Full-clause-ran : goal.returns-in-Err-Full-clause-ran
-returns-in-Err-Full-clause-ran g c = full_trigger _ _ _ _ c.args.s.now c.args.parts.now c.if-parts-ne-NOTHING.false (subst (λ (fault : PortFault). RefusedMaking fault (g.P.Port.sight c.args.port.now) (g.P.Port.sight c.new_trigger.new.port) (g.P.Body.Carried.seen c.args.body.now) (g.P.Body.Carried.seen c.new_trigger.new.body) NewTrigger) c.in-Err-Full.field-0-is c.in-Err-Full.ensures.refused).0
+returns-in-Err-Full-clause-ran g c = full_trigger _ _ _ _ c.args.s.now c.args.parts.now c.if-parts-ne-NOTHING.false (rw c.in-Err-Full.field-0-is at c.in-Err-Full.ensures.refused).0
 
 pub returns-in-Err-Again-clause-ran : goal.returns-in-Err-Again-clause-ran
-returns-in-Err-Again-clause-ran g c = making_still _ _ _ _ c.args.s.now c.args.parts.now (subst (λ (fault : PortFault). RefusedMaking fault (g.P.Port.sight c.args.port.now) (g.P.Port.sight c.new_trigger.new.port) (g.P.Body.Carried.seen c.args.body.now) (g.P.Body.Carried.seen c.new_trigger.new.body) NewTrigger) c.in-Err-Again.field-0-is c.in-Err-Again.ensures.refused).0
+returns-in-Err-Again-clause-ran g c = making_still _ _ _ _ c.args.s.now c.args.parts.now (rw c.in-Err-Again.field-0-is at c.in-Err-Again.ensures.refused).0
 
 pub returns-in-Err-Memory-clause-ran : goal.returns-in-Err-Memory-clause-ran
-returns-in-Err-Memory-clause-ran g c = making_still _ _ _ _ c.args.s.now c.args.parts.now (subst (λ (fault : PortFault). RefusedMaking fault (g.P.Port.sight c.args.port.now) (g.P.Port.sight c.new_trigger.new.port) (g.P.Body.Carried.seen c.args.body.now) (g.P.Body.Carried.seen c.new_trigger.new.body) NewTrigger) c.in-Err-Memory.field-0-is c.in-Err-Memory.ensures.refused).0
+returns-in-Err-Memory-clause-ran g c = making_still _ _ _ _ c.args.s.now c.args.parts.now (rw c.in-Err-Memory.field-0-is at c.in-Err-Memory.ensures.refused).0

@@ -1,5 +1,5 @@
 -- The two halves of a wait, by one call at most each.
-use Rattle.std.proofs.Common.{◌≡◌, ◌≢◌, ℕ, ◌⊎◌, inl, inr, true, false, Option, Some, None, [], ◌∷◌, refl, sym, ap, subst, ◌∙◌}
+use Rattle.std.proofs.Common.{◌≡◌, ◌≢◌, ℕ, ◌⊎◌, inl, inr, true, false, Option, Some, None, [], ◌∷◌, refl, sym, subst}
 use Rattle.std.specs.Prelude.{Ok}
 use Rattle.pic_base.specs.declared.outcome.Outcome.{Outcome}
 use Rattle.pic_base.specs.declared.outcome.Outcome.TheVariants.{Returned, Cancelled}
@@ -14,9 +14,9 @@ use Rattle.pic_machine.specs.Sight.{Carry, Sight, fiber_of}
 use Rattle.pic_machine.specs.Waits.{Waiting, arming, attaching, awake, checking, over, told, waiting, waiting_at, waiting_leads, woken}
 use Rattle.fiber_await.specs.declared.ahead.Ahead.{Ahead}
 use Rattle.fiber_await.specs.declared.ahead.Ahead.TheVariants as ahead
-use Rattle.fiber_await.specs.Doing.{Did, IsFree, Ran}
+use Rattle.fiber_await.specs.Doing.{Did, Ran}
 use Rattle.fiber_await.specs.Phases.{attach_tells, peek_tells, trigger_of, unsuspended_at}
-use Rattle.fiber_await.proofs.Running.{did_none, ran_none, ran_one}
+use Rattle.fiber_await.proofs.Running.{ran_none, ran_one}
 
 pub not_attached : (n : ℕ) → (n ≡ 2) ⊎ (n ≡ 3) → n ≢ 3 → n ≡ 2
 not_attached n (inl two) apart = two

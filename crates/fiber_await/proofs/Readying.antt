@@ -1,5 +1,5 @@
 -- Making ready, by one call at most each.
-use Rattle.std.proofs.Common.{◌≡◌, ◌≢◌, ℕ, ◌⊎◌, inl, inr, true, false, unwrap_or, Some, None, [], ◌∷◌, refl, sym, subst}
+use Rattle.std.proofs.Common.{◌≡◌, ◌≢◌, ℕ, ◌⊎◌, inl, inr, true, false, Some, None, [], ◌∷◌, refl, sym, subst}
 use Rattle.pic_machine.specs.declared.entry.Call.TheVariants.{NewTrigger, NewPlace}
 use Rattle.pic_machine.specs.declared.entry.Reply.TheVariants as reply
 use Rattle.pic_machine.specs.declared.waits.Parts.{Parts}
@@ -7,9 +7,9 @@ use Rattle.pic_machine.specs.declared.waits.Standing.{Standing}
 use Rattle.pic_machine.specs.History.{event}
 use Rattle.pic_machine.specs.Sight.{Carry, Sight, fiber_of}
 use Rattle.pic_machine.specs.Waits.{Making, full, made, making, making_at, place, trigger}
-use Rattle.fiber_await.specs.Doing.{Did, IsFree, Ran}
+use Rattle.fiber_await.specs.Doing.{Did, Ran}
 use Rattle.fiber_await.specs.Phases.{trigger_of}
-use Rattle.fiber_await.proofs.Running.{did_none, ran_none, ran_one}
+use Rattle.fiber_await.proofs.Running.{ran_none, ran_one}
 
 module _ {S : Type 0} (p q : Sight S) (a b : Carry S) (s : Standing) (parts : Parts) where
   from : (x y z : Making) → x ≡ y → Ran (making s) p q a b y z → Ran (making s) p q a b x z

@@ -1,5 +1,5 @@
 -- A call of a port behind the making of room: what it did to the body as it was before.
-use Rattle.std.proofs.Common.{◌≡◌, ℕ, ◌<◌, List, [], refl, sym, ap, subst, ◌∙◌, append-nil}
+use Rattle.std.proofs.Common.{ℕ, List, [], refl, subst, ◌∙◌, append-nil}
 use Rattle.pic_base.specs.declared.duty.Duty.{Duty}
 use Rattle.pic_machine.specs.declared.entry.Call.{Call}
 use Rattle.pic_machine.specs.declared.entry.Reply.{Reply}
@@ -8,10 +8,10 @@ use Rattle.pic_machine.specs.declared.port.PortFault.{PortFault}
 use Rattle.pic_machine.specs.declared.port.PortFault.TheVariants.{Full, Again, Memory}
 use Rattle.pic_machine.specs.Duty.{is_owing}
 use Rattle.pic_machine.specs.Happened.{Happened}
-use Rattle.pic_machine.specs.History.{MayMake, event, happening}
+use Rattle.pic_machine.specs.History.{event, happening}
 use Rattle.pic_machine.specs.Lending.{Answered, Called, Kept, Lent, Refuses, RefusesMaking, Spared}
 use Rattle.pic_machine.specs.Log.{Others}
-use Rattle.pic_machine.specs.Sight.{CanMake, Carry, Holds, IsSame, Notes, Sight, fiber_of}
+use Rattle.pic_machine.specs.Sight.{Carry, Holds, IsSame, Notes, Sight, fiber_of}
 use Rattle.pic_machine.proofs.Onward.{later_same, spared}
 use Rattle.pic_machine.proofs.Turns.{same_fiber}
 

@@ -1,4 +1,3 @@
-use Rattle.pic_machine.specs.declared.port.PortFault.{PortFault}
 use Rattle.pic_machine.specs.Lending.{Refuses}
 use Rattle.fiber_await.proofs.Answering.{on_err}
 use Rattle.fiber_await.proofs.Reserving.{refuses_behind, refuses_reserved}

@@ -5,7 +5,7 @@ use pic_base::Value;
 pub enum Ahead {
     /// It goes on.
     Go,
-    /// The fiber's current computation was cancelled with this code, and the fiber is told (Picos: the
-    /// exception that `Trigger.await` gives).
+    /// The fiber's current computation was cancelled with this code, and the fiber is told
+    /// (Picos: the exception that `Trigger.await` returns).
     Cancelled(Value),
 }

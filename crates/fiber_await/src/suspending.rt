@@ -26,7 +26,7 @@ pub fn suspend<P: Port>(
     requires trigger { parts.old.trigger ≢ None }
     requires may { IfSome parts.old.place (λ place. parts.old.at ≡ 2
         → MayMake (P.sight port.old).origin (P.sight port.old).front (fiber_of (P.Body.seen body.old))
-            (Call.Attach place s.now.current (trigger_of parts.old))) }
+        (Call.Attach place s.now.current (trigger_of parts.old))) }
     ensures ran { Ran (waiting s.now (fiber_of (P.Body.seen body.old)) (trigger_of parts.old))
         (P.sight port.old) (P.sight port.new) (P.Body.seen body.old) (P.Body.seen body.new)
         (waiting_at s.now parts.old.at parts.old) (suspended_at s.now result parts.new) }

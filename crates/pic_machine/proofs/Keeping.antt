@@ -52,14 +52,14 @@ in_reverse [] t has = absurd (nothing_in t has)
 in_reverse (u ∷ ts) t has =
     subst (λ (us : List ℕ). Contains us t) (sym (reverse-append (u ∷ []) ts))
     (elim (first_or_later u t ts has) [
-      inl first ↦ Contains-append_right (reverse ts) (u ∷ []) t (0, omega arith, first)
+      | inl first ↦ Contains-append_right (reverse ts) (u ∷ []) t (0, omega arith, first)
       | inr later ↦ Contains-append_left (reverse ts) (u ∷ []) t (in_reverse ts t later)
     ])
 
 in_signals : (ts : List ℕ) (t : ℕ) → Contains ts t → Contains (map Signal ts) (Signal t)
 in_signals [] t has = absurd (nothing_in t has)
 in_signals (u ∷ ts) t has = elim (first_or_later u t ts has) [
-  inl first ↦ Contains-append_left (Signal u ∷ []) (map Signal ts) (Signal t) (0, omega arith, ap Signal first)
+  | inl first ↦ Contains-append_left (Signal u ∷ []) (map Signal ts) (Signal t) (0, omega arith, ap Signal first)
   | inr later ↦ Contains-append_right (Signal u ∷ []) (map Signal ts) (Signal t) (in_signals ts t later)
 ]
 

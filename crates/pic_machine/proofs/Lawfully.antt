@@ -16,7 +16,7 @@ use Rattle.pic_machine.specs.Laws.{HasStopped, Lawful}
 use Rattle.pic_machine.specs.Laws.HasStopped.{ended, waits}
 use Rattle.pic_machine.specs.Once.{Wins}
 use Rattle.pic_machine.specs.Signalling.{SignalsAll, attachments, calls_of}
-use Rattle.pic_machine.specs.State.{State, world_at}
+use Rattle.pic_machine.specs.State.{IsStart, State, world_at}
 use Rattle.pic_machine.proofs.Asleep.{ends_asleep}
 use Rattle.pic_machine.proofs.Attachments.{attached_all}
 use Rattle.pic_machine.proofs.CompletedOnce.{completes_once, won_before}
@@ -72,7 +72,12 @@ starts_lawful start main hs legal =
       kept = λ c t has. kept_all origin.world hs c t (steps origin hs legal) refl has;
       tied = always_tied origin hs (start_tied start) legal;
       asleep = λ f t waits. ends_asleep origin hs f t (λ u was. none_waits start f u was) legal waits;
-      over = λ none. final_unless_live start main hs legal none;
+      over = λ none. final_unless_live origin hs (record { start = start; is = refl }) legal none;
       still = λ final f call allowed. none_allowed (world origin hs) f call final allowed;
       stopped = λ final f made within. has_stopped (world origin hs) f final made within;
     }
+
+-- the same of any origin whose world is one at a start
+pub lawful : (origin : Origin) (hs : List Happened) → IsStart origin.world → IsLegal origin hs → Lawful origin hs
+lawful origin hs start =
+    subst (λ (w : State). IsLegal (record { world = w; main = origin.main }) hs → Lawful (record { world = w; main = origin.main }) hs) (sym start.is) (starts_lawful start.start origin.main hs)

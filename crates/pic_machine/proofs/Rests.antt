@@ -8,7 +8,6 @@ use Rattle.pic_base.specs.declared.action.Action.{Action}
 use Rattle.pic_base.specs.declared.duty.Duty.{Duty}
 use Rattle.pic_base.specs.declared.duty.Duty.TheVariants.{Signal, Follow, Cancel, Return}
 use Rattle.pic_base.specs.declared.outcome.Outcome.{Outcome}
-use Rattle.pic_machine.specs.declared.birth.Birth.{Birth}
 use Rattle.pic_machine.specs.declared.entry.Call.{Call}
 use Rattle.pic_machine.specs.declared.entry.Call.TheVariants as call
 use Rattle.pic_machine.specs.declared.entry.Call.TheVariants.{Arm, Complete, End, Peek}
@@ -16,11 +15,11 @@ use Rattle.pic_machine.specs.declared.state.FiberState.{FiberState}
 use Rattle.pic_machine.specs.declared.state.FiberState.TheVariants.{Live, Suspended, Ended}
 use Rattle.pic_machine.specs.declared.world.Start.{Start}
 use Rattle.pic_machine.specs.Happened.{Happened}
-use Rattle.pic_machine.specs.State.{State, owed_of, world_at}
+use Rattle.pic_machine.specs.State.{IsStart, State, owed_of, world_at}
 use Rattle.pic_machine.specs.Duty.{ClockMakes, DutiesAllow, Fulfils, LeavesDuties}
 use Rattle.pic_machine.specs.Final.{IsFinal}
 use Rattle.pic_machine.specs.Step.{Allowed, IsLive, after}
-use Rattle.pic_machine.specs.History.{Origin, IsLegal, origin_of, world}
+use Rattle.pic_machine.specs.History.{Origin, IsLegal, world}
 use Rattle.pic_machine.specs.Suspending.{IsTied}
 use Rattle.pic_machine.proofs.Callers.{live_of}
 use Rattle.pic_machine.proofs.Counts.{counts_after}
@@ -28,7 +27,7 @@ use Rattle.pic_machine.proofs.Fates.{steps}
 use Rattle.pic_machine.proofs.Finals.{all_at_rest}
 use Rattle.pic_machine.proofs.Lasting.{lasts_from}
 use Rattle.pic_machine.proofs.Steps.{live_after, live_unless, owed_other}
-use Rattle.pic_machine.proofs.Suspensions.{always_tied, start_tied}
+use Rattle.pic_machine.proofs.Suspensions.{always_tied, starts_tied}
 
 -- each fiber has a list of duties beside the clock's, and only live ones owe anything
 pub record IsRested (w : State) : Type 0 where
@@ -128,9 +127,10 @@ owes_none w (suc place) d rested none within =
 pub final_when : (w : State) → IsTied w → IsRested w → All (λ fiber. fiber ≢ Live) w.fibers → IsFinal w
 final_when w tied rested none = record { rest = all_at_rest w tied none; owed = λ k d within. owes_none w k d rested none within }
 
+pub starts_rested : (w : State) → IsStart w → IsRested w
+starts_rested w start = subst IsRested (sym start.is) (start_rested start.start)
+
 -- from a start on, nothing is left to do as soon as no fiber is live
-pub final_unless_live : (start : Start) (main : Birth) (hs : List Happened) → IsLegal (origin_of start main) hs → All (λ fiber. fiber ≢ Live) (world (origin_of start main) hs).fibers
-    → IsFinal (world (origin_of start main) hs)
-final_unless_live start main hs legal none =
-    let origin : Origin = origin_of start main in
-    final_when (world origin hs) (always_tied origin hs (start_tied start) legal) (always_rested origin hs (start_rested start) legal) none
+pub final_unless_live : (origin : Origin) (hs : List Happened) → IsStart origin.world → IsLegal origin hs → All (λ fiber. fiber ≢ Live) (world origin hs).fibers → IsFinal (world origin hs)
+final_unless_live origin hs start legal none =
+    final_when (world origin hs) (always_tied origin hs (starts_tied origin.world start) legal) (always_rested origin hs (starts_rested origin.world start) legal) none

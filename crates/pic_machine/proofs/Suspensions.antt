@@ -12,7 +12,7 @@ use Rattle.pic_machine.specs.declared.entry.Call.TheVariants as call
 use Rattle.pic_machine.specs.declared.entry.Call.TheVariants.{NewTrigger, Arm, Fork, End}
 use Rattle.pic_machine.specs.declared.world.Start.{Start}
 use Rattle.pic_machine.specs.Happened.{Happened}
-use Rattle.pic_machine.specs.State.{State, world_at}
+use Rattle.pic_machine.specs.State.{IsStart, State, world_at}
 use Rattle.pic_machine.specs.Step.{Allowed, IsLive, after, fibers_after, grown, has_room, triggers_after}
 use Rattle.pic_machine.specs.History.{Origin, IsLegal, world}
 use Rattle.pic_machine.specs.Suspending.{IsSuspended, IsTied}
@@ -210,3 +210,6 @@ start_tied start = record {
   resumes = λ t f is. absurd (none_awaits start.triggers t f is);
   awaited = λ t f waits. absurd (none_waits start f t waits);
 }
+
+pub starts_tied : (w : State) → IsStart w → IsTied w
+starts_tied w start = subst IsTied (sym start.is) (start_tied start.start)

@@ -5,9 +5,9 @@ ghost use Rattle.fiber_poll.specs.Polls.{IsPortOf};
 ghost use Rattle.fiber_poll.specs.Yields.{few_yields};
 
 use crate::last::{end_turn, handed_back, yield_turn};
+use crate::owed::discharge;
 use crate::spot::Last;
 use crate::turn::run_on;
-use fiber_await::discharge;
 use fiber_body::{Body, Numbers};
 use pic_base::Memory;
 use pic_machine::{Poller, Port, ReadyLine, Turn};

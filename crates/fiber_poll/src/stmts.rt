@@ -1,7 +1,6 @@
 //! Statements that don't come to their end at once: those with a block, and those with a call.
 ghost use Rattle.std.specs.Prelude.{◌≡◌, ◌≢◌, ◌<◌, [], None, IfErr, IfOk, OnErr, OnOk};
 ghost use Rattle.std.specs.Bool.{OnFalse, OnTrue};
-ghost use Rattle.pic_machine.specs.Duty.{BringsNone};
 ghost use Rattle.pic_machine.specs.Lending.{Calm, Faulted};
 ghost use Rattle.fiber_body.specs.Statements.{first, result as result_of};
 ghost use Rattle.fiber_body.specs.Phases.{calls};
@@ -13,12 +12,12 @@ ghost use Rattle.script_tree.specs.Tree.{Tree};
 use crate::blocks::enter;
 use crate::calls::{call_of, take};
 use crate::making::make;
+use crate::owed::{brings_duties, discharge};
 use crate::poller::ScriptPoller;
 use crate::spot::Spot;
-use fiber_await::discharge;
 use fiber_body::{Body, Frame};
 use pic_base::Memory;
-use pic_machine::{Call, Carried, Port, PortFault, ReadyLine};
+use pic_machine::{Carried, Port, PortFault, ReadyLine};
 use script_tree::Stmt;
 
 /// Enters the block of a loop, or that of a statement with a handler. Answers false, and changes nothing,
@@ -114,11 +113,4 @@ fn ask<P: Port<Body = Body>, R: ReadyLine>(
     let reply = make(poller, port, line, body, call)?;
     take(body, spot, stmt, reply);
     Ok(brings_duties(call))
-}
-
-/// Whether a fiber may owe something behind the call that owed nothing before it.
-fn brings_duties(call: Call) -> bool
-    ensures { OnFalse result (BringsNone call) }
-{
-    matches!(call, Call::Complete { .. })
 }

@@ -10,6 +10,7 @@ pub mod Fresh
 pub mod Onward
 pub mod Homes
 pub mod Owns
+pub mod NumbersByLog
 pub mod Turns
 pub mod Comps
 pub mod Fates

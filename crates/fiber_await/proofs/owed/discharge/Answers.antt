@@ -4,14 +4,11 @@ use Rattle.fiber_await.proofs.Calling.{owes_spared}
 use Rattle.fiber_await.proofs.Fulfilling.{Discharged-trans, discharged_more, discharged_none, discharged_spared, none_first, own_discharged}
 use Rattle.fiber_await.proofs.owed.discharge.Goals as goal
 
--- A body may be sent to where other laws of memory hold, so its own laws are told for wherever it is: here
--- they are taken where it is now.
-
 pub loop-duty-init : goal.loop-duty-init
-loop-duty-init g c = record { done = discharged_none _ _ _ c.requires; calm = refl; rest = (g.met.P.Body.Carried g.world.𝓛 g.world.𝓜 g.world.𝓡 ((λ s x. x), (λ x. x), (λ x. x), λ x. x)).rest_same c.args.body.now }
+loop-duty-init g c = record { done = discharged_none _ _ _ c.requires; calm = refl; rest = g.met.P.Body.Carried.rest_same c.args.body.now }
 
 pub fulfil-requires-clause-first : goal.fulfil-requires-clause-first
-fulfil-requires-clause-first g c κs within =
+fulfil-requires-clause-first g c =
     sym c.in-Some.is ∙ (c.walk_next.ensures.first ∙ ap (λ (ds : List Duty). slice_get ds 0) (sym (owes_spared _ _ _ _ c.loop-duty.invariant.done.went.holds.owes c.walk_next.ensures.spared)))
 
 pub loop-duty-smaller : goal.loop-duty-smaller
@@ -19,7 +16,7 @@ loop-duty-smaller g c = omega (arith, c.in_ok-fulfil.ensures.fewer, ap length (o
 
 pub loop-duty-preserved : goal.loop-duty-preserved
 loop-duty-preserved g c =
-    let laws = (g.met.P.Body.Carried g.world.𝓛 g.world.𝓜 g.world.𝓡 ((λ s x. x), (λ x. x), (λ x. x), λ x. x)) in
+    let laws = g.met.P.Body.Carried in
     record {
       done = discharged_more _ _ _ _ _ _ _ _ _ _ _ c.loop-duty.invariant.done c.walk_next.ensures.spared c.fulfil.ensures.discharged;
       calm = c.in_ok-fulfil.ensures.calm ∙ (c.walk_next.ensures.calm ∙ c.loop-duty.invariant.calm);
@@ -36,7 +33,7 @@ returns-in_err-fulfil-clause-own g c =
 
 pub returns-in_err-fulfil-clause-rest : goal.returns-in_err-fulfil-clause-rest
 returns-in_err-fulfil-clause-rest g c =
-    let laws = (g.met.P.Body.Carried g.world.𝓛 g.world.𝓜 g.world.𝓡 ((λ s x. x), (λ x. x), (λ x. x), λ x. x)) in
+    let laws = g.met.P.Body.Carried in
     laws.rest_after _ _ _ c.loop-duty.invariant.rest (laws.rest_after _ _ _ c.walk_next.ensures.rest c.fulfil.ensures.rest)
 
 pub returns-clause-discharged : goal.returns-clause-discharged
@@ -50,4 +47,4 @@ returns-clause-owes g c =
     owes_spared _ _ _ _ c.loop-duty.invariant.done.went.holds.owes c.walk_next.ensures.spared ∙ none_first _ (sym c.in_default.is ∙ c.walk_next.ensures.first)
 
 pub returns-clause-rest : goal.returns-clause-rest
-returns-clause-rest g c = (g.met.P.Body.Carried g.world.𝓛 g.world.𝓜 g.world.𝓡 ((λ s x. x), (λ x. x), (λ x. x), λ x. x)).rest_after _ _ _ c.loop-duty.invariant.rest c.walk_next.ensures.rest
+returns-clause-rest g c = g.met.P.Body.Carried.rest_after _ _ _ c.loop-duty.invariant.rest c.walk_next.ensures.rest

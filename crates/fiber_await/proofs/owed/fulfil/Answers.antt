@@ -6,7 +6,7 @@ pub unreachable-requires : goal.unreachable-requires
 unreachable-requires g c = no_other _ _ c.args.duty (g.met.P.Port.starts c.args.port.now) c.requires.holds c.requires.first c.in_default.not-Signal
 
 pub signal-requires-clause-may : goal.signal-requires-clause-may
-signal-requires-clause-may g c κs within = may_signal _ _ c.in-Signal.trigger (g.met.P.Port.starts c.args.port.now) c.requires.holds (ap Some (sym c.in-Signal.is) ∙ c.requires.first)
+signal-requires-clause-may g c = may_signal _ _ c.in-Signal.trigger (g.met.P.Port.starts c.args.port.now) c.requires.holds (ap Some (sym c.in-Signal.is) ∙ c.requires.first)
 
 pub returns-in_err-how-clause-discharged : goal.returns-in_err-how-clause-discharged
 returns-in_err-how-clause-discharged g c = discharged_spared _ _ _ _ _ c.in_err-how.ensures.refused.0

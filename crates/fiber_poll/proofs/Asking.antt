@@ -91,6 +91,11 @@ taken_lighter b spot one reply at some =
     let light = behind_weight spot e.exit in
     omega (arith, there, before, light, e.steps, some)
 
+-- what is owed doesn't change by it
+pub taken_owes : (b : Shown) (spot : Spot) (p : Phase) → (taken b spot p).owes ≡ b.owes
+taken_owes b spot (ended exit c) = refl
+taken_owes b spot _ = refl
+
 -- ---- where its entry leads
 
 module _ (a : Shown) (f : ℕ) (spot : Spot) (one : Stmt) (call : Call) (reply : Reply) (mine : List Happened) where

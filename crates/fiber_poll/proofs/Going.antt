@@ -82,6 +82,10 @@ up_led p b f holds mine fiber leads live = record {
   live = live;
 }
 
+-- a body that moved owes what it owed
+pub free_gone : {a b : Shown} → Goes a b → a.owes ≡ [] → b.owes ≡ []
+free_gone goes free = ap (λ (c : Carry (Option Tree)). c.owes) goes.same ∙ free
+
 still_live : (a b : Shown) → IsSameRest a b → a.standing ≢ Ended → b.standing ≢ Ended
 still_live a b rest live ended = live (sym rest.standing ∙ ended)
 

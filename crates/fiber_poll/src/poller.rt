@@ -5,9 +5,8 @@ ghost use Rattle.fiber_poll.specs.Polls.{IsPortOf};
 ghost use Rattle.fiber_poll.specs.Yields.{few_yields};
 
 use crate::last::{end_turn, handed_back, yield_turn};
-use crate::owed::discharge;
 use crate::spot::Last;
-use crate::turn::run_on;
+use crate::turn::run_turn;
 use fiber_body::{Body, Numbers};
 use pic_base::Memory;
 use pic_machine::{Poller, Port, ReadyLine, Turn};
@@ -57,11 +56,7 @@ impl<P: Port<Body = Body>> Poller<P> for ScriptPoller {
 
     fn poll<R: ReadyLine>(&self, port: &mut P, line: &mut R, body: Body) -> Turn<Body> {
         let mut body = body;
-        // A turn that was broken off may have left something owed.
-        if let Err(fault) = discharge(port, line, &mut body) {
-            return handed_back(body, fault);
-        }
-        match run_on(self, port, line, &mut body) {
+        match run_turn(self, port, line, &mut body) {
             Ok(Last::Yield(spot)) => yield_turn(port, line, body, spot),
             Ok(Last::End(outcome)) => end_turn(port, body, outcome),
             Err(fault) => handed_back(body, fault),

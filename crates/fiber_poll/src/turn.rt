@@ -6,6 +6,7 @@ ghost use Rattle.fiber_poll.specs.Polls.{IsPortOf};
 ghost use Rattle.fiber_poll.specs.UnderWay.{CanRun, IsLast, IsOn, IsStep, IsUp};
 
 use crate::blocks::leave;
+use crate::owed::discharge;
 use crate::poller::ScriptPoller;
 use crate::silent::{run_silently, stmt_at};
 use crate::spot::{Last, Spot};
@@ -15,8 +16,28 @@ use pic_base::Memory;
 use pic_machine::{Port, PortFault, ReadyLine};
 use script_tree::Stmt;
 
+/// Runs a turn up to its last call, and tells which one that is. What the fiber owes comes first: a turn that
+/// was broken off may have left some of it.
+pub(crate) fn run_turn<P: Port<Body = Body>, R: ReadyLine>(
+    poller: &ScriptPoller,
+    port: &mut P,
+    line: &mut R,
+    body: &mut Body,
+) -> Result<Last, PortFault>
+    requires port_of { IsPortOf poller.now (P.sight port.old) }
+    requires up { IsUp (P.sight port.old) body.old }
+    ensures on { IsOn (P.sight port.old) (P.sight port.new) body.old body.new (R.told line.old) (R.told line.new) }
+    ensures last { IfOk result (λ last. IsLast body.new last) }
+    ensures free { OnOk result (body.new.owes ≡ []) }
+    ensures calm { OnOk result (Calm (P.sight port.old) (P.sight port.new)) }
+    ensures gave_up { IfErr result (λ fault. Faulted fault (P.sight port.old) (P.sight port.new)) }
+{
+    discharge(port, line, body)?;
+    run_on(poller, port, line, body)
+}
+
 /// Runs statements until the turn is to end, and tells by which last call.
-pub(crate) fn run_on<P: Port<Body = Body>, R: ReadyLine>(
+fn run_on<P: Port<Body = Body>, R: ReadyLine>(
     poller: &ScriptPoller,
     port: &mut P,
     line: &mut R,

@@ -1,11 +1,17 @@
-use Rattle.std.proofs.Common.{◌≡◌, ◌<◌, ℕ, Some, List, refl, sym, ap, subst, ◌∙◌, arith}
+use Rattle.std.proofs.Common.{◌≡◌, ◌<◌, ℕ, Bool, true, false, Some, List, [], refl, sym, ap, subst, ◌∙◌, arith}
+use Rattle.std.specs.Bool.{OnFalse}
+use Rattle.pic_machine.specs.declared.entry.Call.{Call}
+use Rattle.pic_machine.specs.Duty.{BringsNone}
+use Rattle.pic_machine.specs.Sight.{fiber_of}
+use Rattle.pic_machine.proofs.Freeing.{lent_free}
 use Rattle.script_tree.specs.Tree.{Tree}
+use Rattle.fiber_body.specs.Segments.{happens}
 use Rattle.fiber_body.specs.Context.{Context, comp_numbers, stepped}
-use Rattle.fiber_body.specs.Statements.{call_of, replied}
-use Rattle.fiber_body.specs.Shown.{Shown}
+use Rattle.fiber_body.specs.Statements.{born, call_of, replied}
+use Rattle.fiber_body.specs.Shown.{Shown, carry_of}
 use Rattle.fiber_poll.specs.Moving.{taken, weight}
 use Rattle.fiber_poll.specs.UnderWay.{IsOn}
-use Rattle.fiber_poll.proofs.Asking.{asks_some, can_ask, on_called, taken_lighter}
+use Rattle.fiber_poll.proofs.Asking.{asks_some, can_ask, on_called, taken_lighter, taken_owes}
 use Rattle.fiber_poll.proofs.Going.{on_reserved}
 use Rattle.fiber_poll.proofs.stmts.ask.Goals as goal
 
@@ -50,5 +56,20 @@ returns-clause-lighter g c =
     let less = taken_lighter d c.args.spot c.args.stmt.now c.in_ok-reply.reply at (subst (λ (x : Context). 0 < x.steps) (sym same) c.requires.before.steps) in
     omega (arith, there, light, less)
 
+on_false : (b : Bool) (P Q : Type 0) → (P → Q) → OnFalse b P → OnFalse b Q
+on_false true P Q so is = tt
+on_false false P Q so is = so is
+
 pub returns-clause-free : goal.returns-clause-free
-returns-clause-free g c = ?
+returns-clause-free g c =
+    let p = g.P.Port.sight c.args.port.now in
+    let q = g.P.Port.sight c.make.new.port in
+    let b : Shown = c.reserve.new.self in
+    let d : Shown = c.make.new.body in
+    let call : Call = c.in-Some.call in
+    let up = (on_reserved {told = g.R.ReadyLine.told c.args.line.now} c.requires.up c.reserve.ensures.notes c.reserve.ensures.rest).up in
+    let free : b.owes ≡ [] = c.reserve.ensures.notes.owes ∙ c.requires.free in
+    let there : c.take.new.body.owes ≡ d.owes = ap (λ (z : Shown). z.owes) c.take.ensures ∙ taken_owes d c.args.spot (replied (stepped d.context) c.args.stmt.now c.in_ok-reply.reply) in
+    on_false c.brings_duties.result (BringsNone call) (c.take.new.body.owes ≡ [])
+    (λ brings. there ∙ lent_free p q (carry_of b) (carry_of d) (happens (fiber_of (carry_of b)) call c.in_ok-reply.reply (born b.context call)) c.in_ok-reply.ensures.made.lent up.holds refl brings free)
+    c.brings_duties.ensures

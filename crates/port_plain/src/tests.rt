@@ -2,7 +2,7 @@
 ghost use Rattle.std.specs.Prelude.{◌≡◌, ◌≢◌, ⊤, [], None, IfOk, OnOk};
 ghost use Rattle.std.proofs.Common.{◌∙◌};
 ghost use Rattle.pic_machine.specs.Log.{visible};
-ghost use Rattle.pic_machine.specs.Sight.{Holds, fiber_of, nothing};
+ghost use Rattle.pic_machine.specs.Sight.{Holds, fiber_of};
 ghost use Rattle.port_plain.specs.Shown.{sight_of};
 
 use super::PlainPort;

@@ -1,0 +1,5 @@
+use Rattle.port_plain.proofs.Lent.{refused}
+use Rattle.port_plain.proofs.port.PlainPortPort.walk_next.Goals as goal
+
+pub returns-clause-spared : goal.returns-clause-spared
+returns-clause-spared g c = ?

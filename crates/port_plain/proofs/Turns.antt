@@ -108,6 +108,20 @@ module _ {S : Type 0} (body : Carry S) (f t : ℕ) (number : body.number ≡ Som
   pub own_call : Arm t (Resume (fiber_of body)) ≡ Arm t (Resume f)
   own_call = ap (λ (n : ℕ). Arm t (Resume n)) (fiber_is body f number)
 
+-- so it is suspended, and its body comes home
+module _ {B S : Type 0} (seen : B → Carry S) (fits : B → List Happened → Type 0) (same_rest : B → B → Type 0) (port new : Shown B) (body : B) (holds : Holds (sight_of seen port) (seen body)) (f t : ℕ) (number : (seen body).number ≡ Some f)
+    (reply : Reply) (made : new ≡ with_entry port (marked seen port f (Arm t (Resume f)) reply)) (follows : Follows (origin_in seen port) port.front (marked seen port f (Arm t (Resume f)) reply)) (set : reply ≡ Armed Set) where
+  pub parked : (later : Shown B) → later ≡ record new { out = None } → Made (sight_of seen port) (sight_of seen later) (event (fiber_of (seen body)) (Arm t (Resume (fiber_of (seen body)))) (Armed Set))
+  parked later is =
+      subst (λ (call : Call). Made (sight_of seen port) (sight_of seen later) (event (fiber_of (seen body)) call (Armed Set))) (sym (own_call (seen body) f t number))
+      (finished seen fits same_rest port new body holds f number (Arm t (Resume f)) reply (Armed Set) made follows tt set later is)
+
+  pub parked_home : (noted : B) → Notes (seen body) (seen noted) ((event (fiber_of (seen body)) (Arm t (Resume f)) reply).entry ∷ []) → same_rest body noted
+      → FitsWith seen same_rest fits body (log port.front (fiber_of (seen body))) (event (fiber_of (seen body)) (Arm t (Resume (fiber_of (seen body)))) (Armed Set)) → IsAtHome seen fits new (fiber_of (seen noted)) noted
+  parked_home noted notes rest fitting =
+      finished_home seen fits same_rest port new body holds f number (Arm t (Resume f)) reply (Armed Set) made follows tt set noted notes rest
+      (subst (λ (call : Call). FitsWith seen same_rest fits body (log port.front (fiber_of (seen body))) (event (fiber_of (seen body)) call (Armed Set))) (own_call (seen body) f t number) fitting)
+
 -- the trigger wasn't initial any more
 pub was_met : (w : State) (f t : ℕ) (reply : Reply) (how : ArmReply) → reply ≡ reply_of w f (Arm t (Resume f)) → reply ≡ Armed how → how ≢ Set → slice_get w.triggers t ≢ Some Initial
 was_met w f t reply how is told other = λ initial. other (

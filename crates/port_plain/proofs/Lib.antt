@@ -8,3 +8,4 @@ pub mod Turns
 pub mod Forking
 pub mod Unloading
 pub mod Alone
+pub mod Handing

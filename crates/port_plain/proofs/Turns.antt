@@ -125,10 +125,10 @@ module _ {B S : Type 0} (seen : B → Carry S) (fits : B → List Happened → T
 -- the trigger wasn't initial any more
 pub was_met : (w : State) (f t : ℕ) (reply : Reply) (how : ArmReply) → reply ≡ reply_of w f (Arm t (Resume f)) → reply ≡ Armed how → how ≢ Set → slice_get w.triggers t ≢ Some Initial
 was_met w f t reply how is told other = λ initial. other (
-  let set : armed (slice_get w.triggers t) ≡ Armed Set = ap armed initial in
-  let e : Armed how ≡ Armed Set = sym told ∙ (is ∙ set) in
-  cc
-)
+    let set : armed (slice_get w.triggers t) ≡ Armed Set = ap armed initial in
+    let e : Armed how ≡ Armed Set = sym told ∙ (is ∙ set) in
+    cc
+    )
 
 module _ {B S : Type 0} (seen : B → Carry S) (port new : Shown B) (a b : Carry S) (holds : Holds (sight_of seen port) a) (f t : ℕ) (number : a.number ≡ Some f) (reply : Reply)
     (made : new ≡ with_entry port (marked seen port f (Arm t (Resume f)) reply)) (follows : Follows (origin_in seen port) port.front (marked seen port f (Arm t (Resume f)) reply)) where

@@ -1,4 +1,4 @@
--- What tests keep of a body that is out, and of a port whose bodies are all at home.
+-- How a body that is out stays so as tests hand it about, and what its fiber may call then.
 use Rattle.std.proofs.Common.{◌≡◌, ◌≢◌, ℕ, ◌+◌, ◌<◌, ◌≤◌, inl, nat_lt, Bool, true, false, Option, Some, None, List, [], ◌∷◌, ◌++◌, length, slice_get, refl, sym, ap, subst, ◌∙◌, append_assoc, append-nil, arith}
 use Rattle.std.specs.List.{AllByRecursion}
 use Rattle.pic_base.specs.declared.action.Action.TheVariants.{Resume}
@@ -17,17 +17,13 @@ use Rattle.pic_machine.specs.Lending.{Began, Called, Kept, Laid, Later, Lent, Sp
 use Rattle.pic_machine.specs.Lending as lending
 use Rattle.pic_machine.specs.Log.{log, visible}
 use Rattle.pic_machine.specs.Sight.{CanMake, Carry, Holds, Notes, Sight, fiber_of}
+use Rattle.port_plain.specs.Handed.{Begins, IsIn, IsOut}
 use Rattle.pic_machine.proofs.Histories.{world-push, world_from-append}
 use Rattle.pic_machine.proofs.Lists.{each-append}
 use Rattle.pic_machine.proofs.Staying.{owed_stays}
 use Rattle.pic_machine.proofs.Steps.{length-comps, places_stay, triggers_stay}
 
 -- ---- what stands from the start
-
-pub record Begins (w : State) : Type 0 where
-  pub triggers : 2 ≤ length w.triggers
-  pub comps : 1 ≤ length w.comps
-  pub fibers : w.limits.fibers ≡ 2
 
 triggers_from : (w : State) (hs : List Happened) → length w.triggers ≤ length (world_from w hs).triggers
 triggers_from w [] = omega arith
@@ -45,15 +41,6 @@ begins_still : {S : Type 0} (p q : Sight S) → q.origin ≡ p.origin → Begins
 begins_still p q same begun = subst (λ (o : Origin). Begins o.world) (sym same) begun
 
 -- ---- a body that is out, and all bodies at home
-
-pub record IsOut {S : Type 0} (p : Sight S) (a : Carry S) : Type 0 where
-  pub holds : Holds p a
-  pub fiber : fiber_of a ≢ 0
-  pub begun : Begins p.origin.world
-
-pub record IsIn {S : Type 0} (p : Sight S) : Type 0 where
-  pub out : p.out ≡ None
-  pub begun : Begins p.origin.world
 
 module _ {S : Type 0} (p q : Sight S) (a b : Carry S) where
   still_other : b.number ≡ a.number → fiber_of a ≢ 0 → fiber_of b ≢ 0

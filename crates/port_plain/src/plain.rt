@@ -3,6 +3,7 @@ ghost use Rattle.pic_machine.specs.State.{CanStart, owed_of};
 ghost use Rattle.pic_machine.specs.Final.{IsFinal};
 ghost use Rattle.pic_machine.specs.Step.{IsLive};
 ghost use Rattle.pic_machine.specs.History.{IsLegal, world};
+ghost use Rattle.pic_machine.specs.Laws.{Lawful};
 ghost use Rattle.pic_machine.specs.Log.{entries};
 ghost use Rattle.port_plain.specs.Shown.{IsMain, IsClock, births_in, origin_in};
 
@@ -68,6 +69,7 @@ impl<B: Carried> PlainPort<B> {
     pub fn history(&self) -> &EntryLog
         ensures entries { result.now.entries ≡ entries self.now.front }
         ensures legal { IsLegal (origin_in B.seen self.now) self.now.front }
+        ensures laws { Lawful (origin_in B.seen self.now) self.now.front }
     {
         &self.history
     }

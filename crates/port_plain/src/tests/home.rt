@@ -18,7 +18,7 @@ pub(super) struct In {
 impl Model for In {
     ghost use Rattle.std.specs.Prelude.{⊤};
     ghost use Rattle.port_plain.specs.Shown.{sight_of};
-    ghost use Rattle.port_plain.proofs.Handing.{IsIn};
+    ghost use Rattle.port_plain.specs.Handed.{IsIn};
 
     ghost Value = { ⊤ };
 

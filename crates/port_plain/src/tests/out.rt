@@ -1,7 +1,7 @@
 //! A body that is out of its port.
 ghost use Rattle.std.specs.Prelude.{◌≡◌, ◌<◌, [], IfOk};
 ghost use Rattle.port_plain.specs.Shown.{sight_of};
-ghost use Rattle.port_plain.proofs.Handing.{IsOut};
+ghost use Rattle.port_plain.specs.Handed.{IsOut};
 
 use super::bare::Bare;
 use super::home::In;
@@ -23,7 +23,7 @@ pub(super) struct Out {
 impl Model for Out {
     ghost use Rattle.std.specs.Prelude.{⊤};
     ghost use Rattle.port_plain.specs.Shown.{sight_of};
-    ghost use Rattle.port_plain.proofs.Handing.{IsOut};
+    ghost use Rattle.port_plain.specs.Handed.{IsOut};
 
     ghost Value = { ⊤ };
 

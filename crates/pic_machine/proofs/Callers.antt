@@ -10,37 +10,31 @@ use Rattle.pic_machine.specs.declared.entry.Call.{Call}
 use Rattle.pic_machine.specs.declared.entry.Call.TheVariants as call
 use Rattle.pic_machine.specs.declared.entry.Call.TheVariants.{Arm, Complete, Peek, End}
 use Rattle.pic_machine.specs.State.{State, owed_of}
-use Rattle.pic_machine.specs.Duty.{ClockMakes}
+use Rattle.pic_machine.specs.Duty.{ClockMakes, LeavesDuties}
 use Rattle.pic_machine.specs.Step.{Allowed, IsLive, MayAct}
 
--- the calls that only a fiber from 1 on makes, since no duty asks for them
-abbrev pub FiberMakes : Call → Type 0
-FiberMakes (call.Signal t) = ⊥
-FiberMakes (Complete c o) = ⊥
-FiberMakes (Peek c) = ⊥
-FiberMakes _ = Unit {0}
+-- no duty asks for such a call, and the clock makes no other
+clock_never : (ds : List Duty) (call : Call) → LeavesDuties call → ClockMakes ds call → ⊥
+clock_never [] call leaves clock = clock
+clock_never (Signal t ∷ ds) (call.Signal u) leaves clock = leaves
+clock_never (Signal t ∷ ds) call leaves clock = clock
+clock_never (Follow from into ∷ ds) (Peek c) leaves clock = leaves
+clock_never (Follow from into ∷ ds) call leaves clock = clock
+clock_never (Cancel into code ∷ ds) (Complete c o) leaves clock = leaves
+clock_never (Cancel into code ∷ ds) call leaves clock = clock
+clock_never (Return into branch ∷ ds) (Complete c o) leaves clock = leaves
+clock_never (Return into branch ∷ ds) call leaves clock = clock
 
-clock_never : (ds : List Duty) (call : Call) → FiberMakes call → ClockMakes ds call → ⊥
-clock_never [] call makes clock = clock
-clock_never (Signal t ∷ ds) (call.Signal u) makes clock = makes
-clock_never (Signal t ∷ ds) call makes clock = clock
-clock_never (Follow from into ∷ ds) (Peek c) makes clock = makes
-clock_never (Follow from into ∷ ds) call makes clock = clock
-clock_never (Cancel into code ∷ ds) (Complete c o) makes clock = makes
-clock_never (Cancel into code ∷ ds) call makes clock = clock
-clock_never (Return into branch ∷ ds) (Complete c o) makes clock = makes
-clock_never (Return into branch ∷ ds) call makes clock = clock
-
-pub not_clock : (w : State) (f : ℕ) (call : Call) → Allowed w f call → FiberMakes call → f ≢ 0
-not_clock w f call allowed makes zero_is = clock_never (owed_of w f) call makes (allowed.clock zero_is)
+pub not_clock : (w : State) (f : ℕ) (call : Call) → Allowed w f call → LeavesDuties call → f ≢ 0
+not_clock w f call allowed leaves zero_is = clock_never (owed_of w f) call leaves (allowed.clock zero_is)
 
 -- whoever may act and isn't the clock is live
 pub live_of : (w : State) (f : ℕ) → MayAct w f → f ≢ 0 → IsLive w f
 live_of w f (inl clock) fiber = absurd (fiber clock)
 live_of w f (inr live) fiber = live
 
-pub caller_is_live : (w : State) (f : ℕ) (call : Call) → Allowed w f call → FiberMakes call → IsLive w f
-caller_is_live w f call allowed makes = live_of w f allowed.caller (not_clock w f call allowed makes)
+pub caller_is_live : (w : State) (f : ℕ) (call : Call) → Allowed w f call → LeavesDuties call → IsLive w f
+caller_is_live w f call allowed leaves = live_of w f allowed.caller (not_clock w f call allowed leaves)
 
 pub armer_is_live : (w : State) (f t : ℕ) (action : Action) → Allowed w f (Arm t action) → IsLive w f
 armer_is_live w f t action allowed = caller_is_live w f (Arm t action) allowed tt

@@ -18,7 +18,7 @@ use Rattle.pic_machine.specs.History.{BirthFits, Origin, Follows, IsLegal, birth
 use Rattle.pic_machine.specs.Log.{Others, log}
 use Rattle.pic_machine.proofs.Histories.{world-push, world_from-append}
 use Rattle.pic_machine.proofs.Steps.{fibers_stay}
-use Rattle.pic_machine.proofs.Standing.{birth_among-append, log-others, not_same, owed_stays, same_number}
+use Rattle.pic_machine.proofs.Staying.{birth_among-append, log-others, not_same, owed_stays, same_number}
 
 -- fiber g isn't made in the world
 abbrev pub IsFresh : State → ℕ → Type 0

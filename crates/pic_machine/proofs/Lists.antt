@@ -4,7 +4,7 @@ use Rattle.std.specs.List.{AllByRecursion}
 use Rattle.std.proofs.lemmas.Bool.Decides.{eqb_tells}
 use Rattle.std.proofs.lemmas.List.{length-append}
 use Rattle.pic_base.specs.declared.duty.Duty.{Duty}
-use Rattle.pic_machine.proofs.Parts.{one_more}
+use Rattle.pic_machine.specs.Step.{grown}
 
 pub slice_get-set_other : {A : Type 0} (xs : List A) (i j : ℕ) (x : A) → j ≢ i → slice_get (slice_set xs i x) j ≡ slice_get xs j
 slice_get-set_other [] i j x other = refl
@@ -43,21 +43,22 @@ slice_get-append_left [] ys i x is = absurd cc
 slice_get-append_left (y ∷ xs) ys zero x is = is
 slice_get-append_left (y ∷ xs) ys (suc i) x is = slice_get-append_left xs ys i x is
 
-pub slice_get-one_more : {A : Type 0} (room : Bool) (xs : List A) (y x : A) (i : ℕ) → slice_get xs i ≡ Some x → slice_get (one_more room xs y) i ≡ Some x
-slice_get-one_more true xs y x i is = slice_get-append_left xs (y ∷ []) i x is
-slice_get-one_more false xs y x i is = is
+-- what stands somewhere stands there too in the longer list
+pub grown_get : {A : Type 0} (room : Bool) (xs : List A) (x : A) (i : ℕ) (y : A) → slice_get xs i ≡ Some y → slice_get (grown room xs x) i ≡ Some y
+grown_get true xs x i y is = slice_get-append_left xs (x ∷ []) i y is
+grown_get false xs x i y is = is
 
 -- what stands in the longer list is the new one, or stood there before
-pub slice_get-one_less : {A : Type 0} (room : Bool) (xs : List A) (y x : A) (i : ℕ) → x ≢ y → slice_get (one_more room xs y) i ≡ Some x → slice_get xs i ≡ Some x
-slice_get-one_less true [] y x zero other is = let same : Some y ≡ Some x = is in absurd (other cc)
-slice_get-one_less true [] y x (suc i) other is = absurd cc
-slice_get-one_less true (z ∷ xs) y x zero other is = is
-slice_get-one_less true (z ∷ xs) y x (suc i) other is = slice_get-one_less true xs y x i other is
-slice_get-one_less false xs y x i other is = is
+pub grown_less : {A : Type 0} (room : Bool) (xs : List A) (x : A) (i : ℕ) (y : A) → y ≢ x → slice_get (grown room xs x) i ≡ Some y → slice_get xs i ≡ Some y
+grown_less true [] x zero y other is = let same : Some x ≡ Some y = is in absurd (other cc)
+grown_less true [] x (suc i) y other is = absurd cc
+grown_less true (z ∷ xs) x zero y other is = is
+grown_less true (z ∷ xs) x (suc i) y other is = grown_less true xs x i y other is
+grown_less false xs x i y other is = is
 
-pub one_more_stays : {A : Type 0} (room : Bool) (xs : List A) (x : A) → length xs ≤ length (one_more room xs x)
-one_more_stays true xs x = omega (arith, length-append xs (x ∷ []))
-one_more_stays false xs x = omega arith
+pub grown_stays : {A : Type 0} (room : Bool) (xs : List A) (x : A) → length xs ≤ length (grown room xs x)
+grown_stays true xs x = omega (arith, length-append xs (x ∷ []))
+grown_stays false xs x = omega arith
 
 -- a list with nothing more at its end
 nothing_at_end : (ds : List (List Duty)) (f : ℕ) → slice_index_or (ds ++ [] ∷ []) f [] ≡ slice_index_or ds f []
@@ -66,9 +67,15 @@ nothing_at_end [] (suc f) = refl
 nothing_at_end (d ∷ ds) zero = refl
 nothing_at_end (d ∷ ds) (suc f) = nothing_at_end ds f
 
-pub nothing_more : (room : Bool) (ds : List (List Duty)) (f : ℕ) → slice_index_or (one_more room ds []) f [] ≡ slice_index_or ds f []
-nothing_more true ds f = nothing_at_end ds f
-nothing_more false ds f = refl
+pub grown_owed : (room : Bool) (ds : List (List Duty)) (f : ℕ) → slice_index_or (grown room ds []) f [] ≡ slice_index_or ds f []
+grown_owed true ds f = nothing_at_end ds f
+grown_owed false ds f = refl
+
+-- nothing is written where nothing stands
+pub nothing_written : (ds : List (List Duty)) (f : ℕ) (left : List Duty) → left ≡ [] → slice_index_or ds f [] ≡ [] → slice_index_or (slice_set ds f left) f [] ≡ []
+nothing_written [] f left none before = before
+nothing_written (d ∷ ds) zero left none before = none
+nothing_written (d ∷ ds) (suc f) left none before = nothing_written ds f left none before
 
 -- what is read behind a write was written there, or stood elsewhere before
 pub read_set : {A : Type 0} (xs : List A) (i j : ℕ) (x y : A) → slice_get (slice_set xs i x) j ≡ Some y → ((j ≡ i) × (x ≡ y)) ⊎ ((j ≢ i) × (slice_get xs j ≡ Some y))

@@ -9,7 +9,6 @@ use Rattle.pic_machine.specs.Step.{after, made_below}
 use Rattle.pic_machine.specs.History.{Follows, HasMade, IsLegal, NumbersFit, Origin, Takes, event, world, world_from}
 use Rattle.pic_machine.proofs.Histories.{world_from-append}
 use Rattle.pic_machine.proofs.Lists.{Apart, apart, before, behind, each-append, same}
-use Rattle.pic_machine.proofs.Parts.{places-after}
 use Rattle.pic_machine.proofs.Steps.{places_stay}
 
 -- ---- places
@@ -17,7 +16,7 @@ use Rattle.pic_machine.proofs.Steps.{places_stay}
 -- no history takes a place away
 places_from : (w : State) (hs : List Happened) → w.places ≤ (world_from w hs).places
 places_from w [] = omega arith
-places_from w (h ∷ hs) = omega (arith, places_stay w h.entry.fiber h.entry.call, places_from (after w h.entry.fiber h.entry.call) hs)
+places_from w (h ∷ hs) = omega (arith, places_stay w h.entry.call, places_from (after w h.entry.fiber h.entry.call) hs)
 
 -- the number of a place is how many there were, and there is one more behind it
 record IsNext (w : State) (f n : ℕ) : Type 0 where
@@ -28,7 +27,7 @@ next_when : (w : State) (f n : ℕ) (b : Bool) → nat_lt w.places w.limits.plac
 next_when w f n true room is =
     let made : Made n ≡ Made w.places = is ∙ (rw room refl) in
     let number : n ≡ w.places = cc in
-    record { number = number; behind = places-after w f NewPlace ∙ (rw room (ap (λ (k : ℕ). k + 1) (sym number))) }
+    record { number = number; behind = rw room (ap (λ (k : ℕ). k + 1) (sym number)) }
 next_when w f n false room is = let full : Made n ≡ Full = is ∙ (rw room refl) in absurd cc
 
 next_place : (origin : Origin) (hs : List Happened) (f p : ℕ) → Follows origin hs (event f NewPlace (Made p)) → IsNext (world origin hs) f p

@@ -11,7 +11,7 @@ use Rattle.pic_machine.specs.Log.{Others, is_logged, is_turn, log, visible}
 use Rattle.pic_machine.specs.Sight.{Carry, Sight, Holds, IsSame, fiber_of}
 use Rattle.pic_machine.specs.Lending.{Began, Kept, Later, Lent, Made, Refuses, Spared}
 use Rattle.pic_machine.proofs.Histories.{IsLegal-push, log-push_mine, visible-append}
-use Rattle.pic_machine.proofs.Standing.{acts_stays, birth_stays, log_stays, owed_stays, same_number}
+use Rattle.pic_machine.proofs.Staying.{acts_stays, birth_stays, log_stays, owed_stays, same_number}
 
 -- the port went on to this front, and is the same port
 pub record Onward {S : Type 0} (old new : Sight S) (others : List Happened) (h : Happened) : Type 0 where
@@ -63,7 +63,7 @@ module _ {S : Type 0} (old new : Sight S) (before now : Carry S) (others : List 
   -- it owes now, and that its fiber may act
   pub onward_lent : Onward old new others h → Others h.entry.fiber others → Holds old before → new.out ≡ old.out → h.entry.fiber ≡ fiber_of before → is_turn h.entry.call ≡ false
       → now.birth ≡ before.birth → now.number ≡ before.number → now.noted ≡ before.noted ++ visible (h ∷ []) → now.share ≡ before.share
-      → new.duties now.owes ≡ owed_of (world new.origin new.front) (fiber_of before) → MayAct (world new.origin new.front) (fiber_of before) → Lent old new before now h
+      → now.owes ≡ owed_of (world new.origin new.front) (fiber_of before) → MayAct (world new.origin new.front) (fiber_of before) → Lent old new before now h
   onward_lent on apart holds out mine within birth number noted share owes acts =
       let f = fiber_of before in
       let same : fiber_of now ≡ f = ap (λ (n : Option ℕ). fiber_of (record before { number = n })) number in
@@ -95,7 +95,7 @@ module _ {S : Type 0} (old new : Sight S) (before now : Carry S) (others : List 
 
 module _ {S : Type 0} (old new : Sight S) (before now : Carry S) where
   -- the body of a refused call is as the new front says
-  pub spared : (kept : Kept old new) → Others (fiber_of before) kept.grown.others → Holds old before → IsSame before now → new.duties now.owes ≡ old.duties before.owes → Spared old new before now
+  pub spared : (kept : Kept old new) → Others (fiber_of before) kept.grown.others → Holds old before → IsSame before now → now.owes ≡ before.owes → Spared old new before now
   spared kept apart holds same owes =
       let f = fiber_of before in
       let others = kept.grown.others in
@@ -104,7 +104,7 @@ module _ {S : Type 0} (old new : Sight S) (before now : Carry S) where
       let legal : IsLegal old.origin (old.front ++ others) = subst (IsLegal old.origin) later.front (subst (λ (o : Origin). IsLegal o new.front) later.origin kept.grown.legal) in
       let logs : log new.front f ≡ log old.front f = ap (λ (zs : List Happened). log zs f) later.front ∙ log_stays old.front others f apart in
       let worlds : world old.origin (old.front ++ others) ≡ world new.origin new.front = ap (world old.origin) (sym later.front) ∙ ap (λ (o : Origin). world o new.front) (sym later.origin) in
-      let owed : new.duties now.owes ≡ owed_of (world new.origin new.front) f = owes ∙ (holds.owes ∙ (sym (owed_stays old.origin old.front others f legal apart) ∙ ap (λ (w : State). owed_of w f) worlds)) in
+      let owed : now.owes ≡ owed_of (world new.origin new.front) f = owes ∙ (holds.owes ∙ (sym (owed_stays old.origin old.front others f legal apart) ∙ ap (λ (w : State). owed_of w f) worlds)) in
       let acts : MayAct (world new.origin new.front) f = subst (λ (w : State). MayAct w f) worlds (acts_stays old.origin old.front others f legal apart holds.acts) in
       let born : f ≢ 0 → birth_in new.origin new.front f ≡ Some now.birth = λ fiber.
       ap (λ (o : Origin). birth_in o new.front f) later.origin ∙ (ap (λ (zs : List Happened). birth_in old.origin zs f) later.front ∙ (birth_stays old.origin old.front others f before.birth (holds.birth fiber) ∙ ap Some (sym same.birth))) in

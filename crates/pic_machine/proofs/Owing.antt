@@ -7,7 +7,6 @@ use Rattle.pic_base.specs.declared.duty.Duty.TheVariants.{Signal}
 use Rattle.pic_base.specs.declared.outcome.Outcome.{Outcome}
 use Rattle.pic_machine.specs.declared.state.CompState.{CompState}
 use Rattle.pic_machine.specs.declared.state.CompState.TheVariants.{Running, Done}
-use Rattle.pic_machine.specs.State.{State}
 use Rattle.pic_machine.specs.Step.{with_attached}
 
 -- one more signal is owed, where the first duty stands last
@@ -25,12 +24,12 @@ signal_all duties owed triggers i all before =
     before ∙ ap (λ (ts : List ℕ). map Signal (reverse ts) ++ owed) (take_all i triggers (omega (arith, all)))
 
 -- a running computation gets one more trigger
-pub attached_more : (w : State) (c t : ℕ) (before now : List ℕ) → slice_get w.comps c ≡ Some (Running before) → now ≡ before ++ t ∷ []
-    → record w { comps = slice_set w.comps c (Running now) } ≡ with_attached w c t (slice_get w.comps c)
-attached_more w c t before now is more = rw (is, more) refl
+pub attached_more : (comps : List CompState) (c t : ℕ) (before now : List ℕ) → slice_get comps c ≡ Some (Running before) → now ≡ before ++ t ∷ []
+    → slice_set comps c (Running now) ≡ with_attached comps c t (slice_get comps c)
+attached_more comps c t before now is more = rw (is, more) refl
 
 -- a completed one is as it was
-pub attached_none : (w : State) (c t : ℕ) (o : Outcome) → slice_get w.comps c ≡ Some (Done o) → record w { comps = slice_set w.comps c (Done o) } ≡ with_attached w c t (slice_get w.comps c)
-attached_none w c t o is =
-    let same : slice_set w.comps c (Done o) ≡ w.comps = ap (slice_set w.comps c) (sym (get_or_from_slice_get w.comps c (Done o) (Done o) is)) ∙ set-get_or w.comps c (Done o) in
-    rw is (ap (λ (cs : List CompState). record w { comps = cs }) same)
+pub attached_none : (comps : List CompState) (c t : ℕ) (o : Outcome) → slice_get comps c ≡ Some (Done o) → slice_set comps c (Done o) ≡ with_attached comps c t (slice_get comps c)
+attached_none comps c t o is =
+    let same : slice_set comps c (Done o) ≡ comps = ap (slice_set comps c) (sym (get_or_from_slice_get comps c (Done o) (Done o) is)) ∙ set-get_or comps c (Done o) in
+    rw is same

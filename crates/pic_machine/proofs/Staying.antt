@@ -8,38 +8,40 @@ use Rattle.pic_machine.specs.State.{State, owed_of}
 use Rattle.pic_machine.specs.Step.{Allowed, MayAct}
 use Rattle.pic_machine.specs.History.{Origin, Follows, IsLegal, MayMake, birth_among, birth_at, birth_in, or_later, world}
 use Rattle.pic_machine.specs.Log.{Others, is_logged, log}
-use Rattle.pic_machine.proofs.Histories.{log-append, world-push}
+use Rattle.pic_machine.proofs.Histories.{IsLegal-front, log-append, world-push}
+use Rattle.pic_machine.proofs.Numbers.{numbers_still}
 use Rattle.pic_machine.proofs.Steps.{acts_after, allowed_after, owed_other}
 
 -- what each entry of another fiber leaves standing, all of them do
 others_leave : (P : List Happened → Type 0) (origin : Origin) (f : ℕ)
-    → ((hs : List Happened) (h : Happened) → Follows origin hs h → h.entry.fiber ≢ f → P hs → P (hs ++ h ∷ []))
+    → ((hs : List Happened) (h : Happened) → IsLegal origin hs → Follows origin hs h → h.entry.fiber ≢ f → P hs → P (hs ++ h ∷ []))
     → (hs others : List Happened) → IsLegal origin (hs ++ others) → Others f others → P hs → P (hs ++ others)
 others_leave P origin f leaves hs [] legal apart stands = subst P (sym (append-nil hs)) stands
 others_leave P origin f leaves hs (h ∷ others) legal apart stands =
     let assoc : (hs ++ h ∷ []) ++ others ≡ hs ++ h ∷ others = append_assoc hs (h ∷ []) others in
     subst P assoc
-    (others_leave P origin f leaves (hs ++ h ∷ []) others (subst (IsLegal origin) (sym assoc) legal) apart.1 (leaves hs h (legal.each hs others h refl) apart.0 stands))
+    (others_leave P origin f leaves (hs ++ h ∷ []) others (subst (IsLegal origin) (sym assoc) legal) apart.1 (leaves hs h (IsLegal-front origin hs (h ∷ others) legal) (legal.each hs others h refl) apart.0 stands))
 
 pub may_stays : (origin : Origin) (hs others : List Happened) (f : ℕ) (call : Call) → IsLegal origin (hs ++ others) → Others f others → MayMake origin hs f call → MayMake origin (hs ++ others) f call
 may_stays origin hs others f call legal apart may =
     others_leave (λ hs. MayMake origin hs f call) origin f
-    (λ hs h follows other may. record {
+    (λ hs h before follows other may. record {
       allowed = subst (λ (w : State). Allowed w f call) (sym (world-push origin hs h))
           (allowed_after (world origin hs) h.entry.fiber h.entry.call f call follows.may.allowed other may.allowed);
+      numbers = numbers_still origin hs h f call before follows other may.numbers;
     })
     hs others legal apart may
 
 pub acts_stays : (origin : Origin) (hs others : List Happened) (f : ℕ) → IsLegal origin (hs ++ others) → Others f others → MayAct (world origin hs) f → MayAct (world origin (hs ++ others)) f
 acts_stays origin hs others f legal apart acts =
     others_leave (λ hs. MayAct (world origin hs) f) origin f
-    (λ hs h follows other acts. subst (λ (w : State). MayAct w f) (sym (world-push origin hs h)) (acts_after (world origin hs) h.entry.fiber h.entry.call f follows.may.allowed other acts))
+    (λ hs h before follows other acts. subst (λ (w : State). MayAct w f) (sym (world-push origin hs h)) (acts_after (world origin hs) h.entry.fiber h.entry.call f follows.may.allowed other acts))
     hs others legal apart acts
 
 pub owed_stays : (origin : Origin) (hs others : List Happened) (f : ℕ) → IsLegal origin (hs ++ others) → Others f others → owed_of (world origin (hs ++ others)) f ≡ owed_of (world origin hs) f
 owed_stays origin hs others f legal apart =
     others_leave (λ zs. owed_of (world origin zs) f ≡ owed_of (world origin hs) f) origin f
-    (λ zs h follows other same. ap (λ (w : State). owed_of w f) (world-push origin zs h) ∙ (owed_other (world origin zs) h.entry.fiber h.entry.call f other ∙ same))
+    (λ zs h before follows other same. ap (λ (w : State). owed_of w f) (world-push origin zs h) ∙ (owed_other (world origin zs) h.entry.fiber h.entry.call f other ∙ same))
     hs others legal apart refl
 
 -- ---- logs

@@ -12,7 +12,7 @@ use Rattle.pic_machine.specs.Lending.{Began, Grown, Later, Lent, Made, Rose, Spa
 use Rattle.pic_machine.specs.Turning.{Adds, Grew, Stopped, Went}
 use Rattle.pic_machine.proofs.Lists.{each-append}
 use Rattle.pic_machine.proofs.Onward.{log_made}
-use Rattle.pic_machine.proofs.Standing.{log_stays}
+use Rattle.pic_machine.proofs.Staying.{log_stays}
 
 -- ---- counts and lines
 

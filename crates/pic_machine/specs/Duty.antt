@@ -47,3 +47,15 @@ fulfilled (duty ∷ duties) = duties
 abbrev pub followed : List Duty → Option CompState → List Duty
 followed (Follow from into ∷ duties) (Some (Done (Cancelled code))) = Cancel into code ∷ duties
 followed duties state = fulfilled duties
+
+-- the calls that bring their caller no duty
+abbrev pub BringsNone : Call → Type 0
+BringsNone (Complete comp outcome) = ⊥
+BringsNone _ = ⊤
+
+-- the calls that neither fulfil a duty nor bring one: no duty asks for them
+abbrev pub LeavesDuties : Call → Type 0
+LeavesDuties (call.Signal t) = ⊥
+LeavesDuties (Complete comp outcome) = ⊥
+LeavesDuties (Peek comp) = ⊥
+LeavesDuties _ = ⊤

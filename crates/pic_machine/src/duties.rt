@@ -24,7 +24,7 @@ impl Model for Duties {
 }
 
 impl Duties {
-    ghost use Rattle.std.specs.Prelude.{◌≡◌, ◌↔◌, ◌++◌, [], IsTrue, OnErr, OnOk, Option, map, reverse};
+    ghost use Rattle.std.specs.Prelude.{◌≡◌, ◌↔◌, ◌++◌, [], IsTrue, OnErr, OnOk, Option, map, reverse, slice_get};
     ghost use Rattle.pic_base.specs.declared.duty.Duty.TheVariants.{Signal};
     ghost use Rattle.pic_machine.specs.declared.entry.Reply.TheVariants.{Peeked};
     ghost use Rattle.pic_machine.specs.declared.state.CompState.{CompState};

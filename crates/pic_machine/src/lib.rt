@@ -16,14 +16,14 @@
 //! a port is proved once for all of them.
 //!
 //! The laws of `proofs/` are for those who write ports and what runs on them: how a legal history grows
-//! (`Histories`), what a step and what other fibers leave standing (`Steps`, `Standing`), that there is
-//! nothing of a fiber that isn't made (`Fresh`), that nobody owes anything yet (`Quiet`), what a fiber's
-//! own log leaves out, and what it keeps (`Owns`), how a port's call keeps the contract (`Onward`,
-//! `Homes`), how turns and the answers of polls are put together and stand in order (`Turns`, `Polls`),
-//! that the ready list has exactly the live fibers (`Readiness`), that where not all is over somebody is
-//! live or owes (`Finals`), how many turns there can be where fibers yield so often (`Turnings`), and what
-//! a log tells of how its fiber and the computations ended (`Ends`, `Fates`, `Completions`). It stands on
-//! `pic_base`.
+//! (`Histories`), what a step changes of what its caller owes, and what else it and other fibers leave
+//! standing (`Steps`, `Counts`, `Numbers`, `Staying`), that there is nothing of a fiber that isn't made
+//! (`Fresh`), what a fiber's own log leaves out, and what it keeps (`Owns`), how a port's call keeps the
+//! contract (`Onward`, `Homes`), how turns and the answers of polls are put together and stand in order
+//! (`Turns`, `Polls`), that the ready list has exactly the live fibers (`Readiness`), that where not all is
+//! over somebody is live or owes (`Finals`), how many turns there can be where fibers yield so often
+//! (`Turnings`), and what a log tells of how its fiber and the computations ended (`Ends`, `Fates`,
+//! `Completions`). It stands on `pic_base`.
 #![tactic(auto)]
 
 mod attached;

@@ -122,7 +122,11 @@ pub trait Port: Drop {
         ensures rest { Self.Body.same_rest body.old body.new };
 
     /// Signals a trigger, and makes the fiber ready that is suspended at it.
-    fn signal(&mut self, body: &mut Self::Body, trigger: TriggerNo) -> Result<SignalReply, PortFault>
+    fn signal(
+        &mut self,
+        body: &mut Self::Body,
+        trigger: TriggerNo,
+    ) -> Result<SignalReply, PortFault>
         requires { CanMake (sight self.old) (Self.Body.seen body.old) (Call.Signal trigger) }
         ensures made { IfOk result (λ how. Answered (sight self.old) (sight self.new)
             (Self.Body.seen body.old) (Self.Body.seen body.new)
@@ -239,18 +243,22 @@ pub trait Port: Drop {
 
     /// Arms a trigger with the resumption of the body's fiber, which is suspended at it from then on. Where
     /// the trigger is signalled or awaited already, the fiber goes on, and the body is handed back.
-    fn park(&mut self, trigger: TriggerNo, body: Self::Body) -> Result<(), (Self::Body, ParkRefusal)>
+    fn park(
+        &mut self,
+        trigger: TriggerNo,
+        body: Self::Body,
+    ) -> Result<(), (Self::Body, ParkRefusal)>
         requires can { CanMake (sight self.old) (Self.Body.seen body)
             (Call.Arm trigger (Action.Resume (fiber_of (Self.Body.seen body)))) }
         requires after { FitsWith Self.Body.seen Self.Body.same_rest Self.Body.fits body
             (log (sight self.old).front (fiber_of (Self.Body.seen body)))
             (event (fiber_of (Self.Body.seen body))
-                (Call.Arm trigger (Action.Resume (fiber_of (Self.Body.seen body))))
-                (Reply.Armed ArmReply.Set)) }
+            (Call.Arm trigger (Action.Resume (fiber_of (Self.Body.seen body))))
+            (Reply.Armed ArmReply.Set)) }
         ensures made { OnOk result (Made (sight self.old) (sight self.new)
             (event (fiber_of (Self.Body.seen body))
-                (Call.Arm trigger (Action.Resume (fiber_of (Self.Body.seen body))))
-                (Reply.Armed ArmReply.Set))) }
+            (Call.Arm trigger (Action.Resume (fiber_of (Self.Body.seen body))))
+            (Reply.Armed ArmReply.Set))) }
         ensures out { OnOk result ((sight self.new).out ≡ None) }
         ensures none { IfErr result (λ refused. NotParked refused.1 (sight self.old) (sight self.new)
             (Self.Body.seen body) (Self.Body.seen refused.0)

@@ -42,7 +42,7 @@ impl World {
         ensures after { OnOk result (self.new ≡ record self.old {
           comps = with_outcome self.old.comps comp outcome (slice_get self.old.comps comp);
           owed = slice_set self.old.owed fiber
-            (with_signals (slice_get self.old.comps comp) (fulfilled (owed_of self.old fiber)));
+              (with_signals (slice_get self.old.comps comp) (fulfilled (owed_of self.old fiber)));
         }) }
         ensures err { OnErr result (self.new ≡ self.old) }
     {
@@ -68,7 +68,7 @@ impl World {
         ensures reply { Reply.Peeked result ≡ peeked (slice_get self.old.comps comp) }
         ensures after { self.new ≡ record self.old {
           owed = slice_set self.old.owed fiber
-            (followed (owed_of self.old fiber) (slice_get self.old.comps comp));
+              (followed (owed_of self.old fiber) (slice_get self.old.comps comp));
         } }
     {
         let outcome = match &self.comps[comp as usize] {

@@ -15,7 +15,7 @@ impl World {
         ensures reply { IfOk result (λ reply. reply ≡ made_below (length self.old.triggers) self.old.limits.triggers) }
         ensures after { OnOk result (self.new ≡ record self.old {
           triggers = grown (nat_lt (length self.old.triggers) self.old.limits.triggers)
-            self.old.triggers TrigState.Initial;
+              self.old.triggers TrigState.Initial;
         }) }
         ensures err { OnErr result (self.new ≡ self.old) }
     {
@@ -57,7 +57,7 @@ impl World {
         ensures after { self.new ≡ record self.old {
           triggers = with_action self.old.triggers trigger action (slice_get self.old.triggers trigger);
           fibers = with_waiting self.old.fibers fiber trigger action
-            (slice_get self.old.triggers trigger);
+              (slice_get self.old.triggers trigger);
         } }
     {
         match self.triggers[trigger as usize] {

@@ -1,7 +1,7 @@
 -- The text of a report.
 use Rattle.std.proofs.Common.{zero, suc}
-use Rattle.std.specs.Prelude.{ℕ, ◌+◌, Bool, true, false, Option, Some, None, List, [], ◌∷◌, ◌++◌, codes, decimal, slice_index_or, slice_get, length, map, filter}
-use Rattle.std.specs.List.{flat_map}
+use Rattle.std.specs.Prelude.{ℕ, ◌+◌, Bool, true, false, Option, Some, None, List, [], ◌∷◌, ◌++◌, codes, decimal, slice_index_or, slice_get, map, filter}
+use Rattle.std.specs.List.{count_by, flat_map}
 use Rattle.pic_base.specs.declared.outcome.Outcome.{Outcome}
 use Rattle.pic_base.specs.declared.outcome.Outcome.TheVariants.{Cancelled}
 use Rattle.pic_base.specs.Outcome.{outcome_text}
@@ -141,7 +141,7 @@ is_suspended _ = false
 
 -- how many of the fibers are suspended
 abbrev pub suspended_count : List FiberState → ℕ
-suspended_count states = length (filter is_suspended states)
+suspended_count states = count_by is_suspended states
 
 -- how main ended
 abbrev pub main_line : Option FiberState → List ℕ

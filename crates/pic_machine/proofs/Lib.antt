@@ -11,3 +11,5 @@ pub mod Onward
 pub mod Homes
 pub mod Owns
 pub mod Turns
+pub mod Freeing
+pub mod Lendings

@@ -1,16 +1,22 @@
 -- From what is left of a port to the view of its history.
-use Rattle.std.proofs.Common.{◌≡◌, ◌≢◌, ℕ, suc, ◌+◌, ◌-◌, ◌<◌, ◌≤◌, ◌⊎◌, inl, inr, false, Option, Some, None, List, [], ◌∷◌, ◌++◌, length, slice_get, get_or, refl, ap, subst, ◌∙◌, arith}
+use Rattle.std.proofs.Common.{◌≡◌, ◌≢◌, ℕ, zero, suc, ◌+◌, ◌-◌, ◌<◌, ◌≤◌, ◌⊎◌, inl, inr, Bool, false, Option, Some, None, List, [], ◌∷◌, ◌++◌, length, slice_get, get_or, refl, ap, subst, ◌∙◌, arith}
 use Rattle.std.proofs.lemmas.Option.{get_or_from_slice_get, slice_get_cases, slice_get_within}
 use Rattle.pic_base.specs.declared.outcome.Outcome.{Outcome}
 use Rattle.pic_machine.specs.declared.closed.Closed.{Closed}
+use Rattle.pic_base.specs.declared.action.Action.TheVariants.{Resume}
+use Rattle.pic_machine.specs.declared.entry.ArmReply.TheVariants.{Set}
+use Rattle.pic_machine.specs.declared.entry.Call.TheVariants.{Arm}
 use Rattle.pic_machine.specs.declared.entry.Entry.{Entry}
+use Rattle.pic_machine.specs.declared.entry.Reply.TheVariants.{Armed}
 use Rattle.pic_machine.specs.Happened.{Happened}
 use Rattle.pic_machine.specs.declared.state.FiberState.{FiberState}
 use Rattle.pic_machine.specs.declared.state.FiberState.TheVariants.{Live, Suspended, Ended}
 use Rattle.pic_machine.specs.Home.{IsBodyOf}
-use Rattle.pic_machine.specs.History.{Origin, IsLegal, world}
+use Rattle.pic_machine.specs.History.{Origin, IsLegal, event, world}
 use Rattle.pic_machine.specs.Final.{IsAtRest}
 use Rattle.pic_machine.specs.Log.{is_hidden, log, visible}
+use Rattle.pic_machine.specs.Suspending.{EndsAsleep, IsSuspended}
+use Rattle.pic_machine.proofs.Asleep.{ends_asleep}
 use Rattle.pic_machine.proofs.Fates.{EndsSo, ends_log}
 use Rattle.pic_machine.proofs.Histories.{visible-push}
 use Rattle.script_tree.specs.Tree.{Tree}
@@ -42,11 +48,24 @@ fate_ended hs o ends =
     let shown : is_hidden ends.last.entry.call ends.last.entry.reply ≡ false = rw ends.call refl in
     ap (λ (es : List Happened). fate (visible es)) ends.is ∙ (fate_last ends.front ends.last shown ∙ rw ends.call refl)
 
+-- and those that end in the arming that suspended their fiber tell that
+fate_asleep : (hs : List Happened) (f t : ℕ) → EndsAsleep hs f t → fate (visible hs) ≡ Suspended t
+fate_asleep hs f t ends = ap (λ (es : List Happened). fate (visible es)) ends.is ∙ fate_last ends.front (event f (Arm t (Resume f)) (Armed Set)) refl
+
+-- where main is the one fiber, and live, nobody is suspended
+alone_awake : (place t : ℕ) → slice_get (Live ∷ []) place ≡ Some (Suspended t) → ⊥
+alone_awake zero t is = cc
+alone_awake (suc place) t is = cc
+
 module _ (origin : Origin) (hs : List Happened) (main : origin.world.fibers ≡ Live ∷ []) (legal : IsLegal origin hs) where
   -- a fiber that rests stands as its log tells
   fate_at : (place : ℕ) (state : FiberState) → IsAtRest (world origin hs).triggers state → slice_get (world origin hs).fibers place ≡ Some state → fate (visible (log hs (place + 1))) ≡ state
   fate_at place Live rests is = absurd rests
-  fate_at place (Suspended t) rests is = ?
+  fate_at place (Suspended t) rests is =
+      let here : place + 1 - 1 ≡ place = omega arith in
+      let waits : IsSuspended (world origin hs) (place + 1) t = record { made = omega arith; state = ap (slice_get (world origin hs).fibers) here ∙ is } in
+      fate_asleep (log hs (place + 1)) (place + 1) t
+      (ends_asleep origin hs (place + 1) t (λ u was. alone_awake (place + 1 - 1) u (rw main at was.state)) legal waits)
   fate_at place (Ended o) rests is = fate_ended (log hs (place + 1)) o (ends_log origin hs place o main legal is)
 
 -- ---- the view

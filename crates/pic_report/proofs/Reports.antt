@@ -48,6 +48,19 @@ module _ (script : Tree) (origin : Origin) (hs : List Happened) (with_log : Bool
       ap (λ (w : List (List ℕ)). w ++ views_lines (text_names script) with_log (f + 1) views) (one_is f state view here)
       ∙ ap (λ (w : List (List ℕ)). fiber_lines (text_names script) with_log (name_of_birth (text_names script) (birth_in origin hs f)) f state (visible (log hs f)) ++ w) rest
 
+-- the fibers stand as their views say
+states_are : (origin : Origin) (hs : List Happened) (f : ℕ) (states : List FiberState) (views : List FiberView) → length views ≡ length states
+    → ((i : ℕ) (state : FiberState) (view : FiberView) → slice_get states i ≡ Some state → slice_get views i ≡ Some view → IsFiberView origin hs (i + f) state view) → states_of views ≡ states
+states_are origin hs f [] [] count are = refl
+states_are origin hs f [] (view ∷ views) count are = absurd (omega (arith, count))
+states_are origin hs f (state ∷ states) [] count are = absurd (omega (arith, count))
+states_are origin hs f (state ∷ states) (view ∷ views) count are =
+    let rest = states_are origin hs (f + 1) states views (omega (arith, count)) (λ i s v p q. subst (λ (k : ℕ). IsFiberView origin hs k s v) (let same : suc i + f ≡ i + (f + 1) = omega arith in same) (are (suc i) s v p q)) in
+    rw ((are 0 state view refl refl).state_is, rest) refl
+
+pub states_viewed : (origin : Origin) (hs : List Happened) (traced logged : Bool) (view : RunView) → IsViewOf origin hs traced logged view → states_of view.fibers.items ≡ (world origin hs).fibers
+states_viewed origin hs traced logged view is = states_are origin hs 1 (world origin hs).fibers view.fibers.items is.count is.fiber
+
 -- ---- computations
 
 told_are : (names : List (List ℕ)) (es all : List Entry) (c : ℕ) (states : List CompState) → ((i : ℕ) (state : CompState) → slice_get states i ≡ Some state → (outcome_of state ≡ outcome_by (completion all (c + i))) × (completion es (c + i) ≡ completion all (c + i)))
@@ -93,14 +106,6 @@ module _ (script : Tree) (origin : Origin) (hs : List Happened) (traced with_log
         all_tell c hs (comp_once origin hs c is.legal runs) view.fibers.items view.clock_entries.entries logs_are is.clock (λ x made. let within = completer_made origin hs c x is.legal made in omega (arith, within, is.count)),
       )
 
-  states_are : (f : ℕ) (states : List FiberState) (views : List FiberView) → length views ≡ length states → AreViews script origin hs with_log f states views → states_of views ≡ states
-  states_are f [] [] count are = refl
-  states_are f [] (view ∷ views) count are = absurd (omega (arith, count))
-  states_are f (state ∷ states) [] count are = absurd (omega (arith, count))
-  states_are f (state ∷ states) (view ∷ views) count are =
-      let rest = states_are (f + 1) states views (omega (arith, count)) (λ i s v p q. subst (λ (k : ℕ). IsFiberView origin hs k s v) (let same : f + suc i ≡ (f + 1) + i = omega arith in same) (are (suc i) s v p q)) in
-      rw ((are 0 state view refl refl).state_is, rest) refl
-
   views : AreViews script origin hs with_log 1 (world origin hs).fibers view.fibers.items
   views = λ i state seen p q. subst (λ (k : ℕ). IsFiberView origin hs k state seen) (let same : i + 1 ≡ 1 + i = omega arith in same) (is.fiber i state seen p q)
 
@@ -110,5 +115,5 @@ module _ (script : Tree) (origin : Origin) (hs : List Happened) (traced with_log
       let told : told_lines (comp_names script) (all_entries view) 0 (length (comp_names script) + 1) ≡ comps_lines (comp_names script) (entries hs) 0 w.comps =
       ap (λ (n : ℕ). told_lines (comp_names script) (all_entries view) 0 n) (sym count_now) ∙ told_are (comp_names script) (all_entries view) (entries hs) 0 w.comps (λ i state there. let same : i ≡ 0 + i = omega arith in subst (λ (k : ℕ). (outcome_of state ≡ outcome_by (completion (entries hs) k)) × (completion (all_entries view) k ≡ completion (entries hs) k)) same (comps_are i state there)) in
       let lines : view_lines script view ≡ report_lines script origin hs traced with_log w =
-      rw (trace_is (text_names script) hs traced view.trace is.traces, is.logs, views_are script origin hs with_log 1 w.fibers view.fibers.items is.count views, told, is.now, states_are 1 w.fibers view.fibers.items is.count views) refl in
+      rw (trace_is (text_names script) hs traced view.trace is.traces, is.logs, views_are script origin hs with_log 1 w.fibers view.fibers.items is.count views, told, is.now, states_viewed origin hs traced with_log view is) refl in
       ap joined lines

@@ -1,15 +1,17 @@
 -- The numbers that a fiber may use it may use while others act: no other fiber made the same place.
-use Rattle.std.proofs.Common.{◌≡◌, ◌≢◌, ◌⊎◌, ℕ, ◌+◌, ◌≤◌, inl, inr, nat_lt, Bool, true, false, List, [], ◌∷◌, ◌++◌, refl, sym, ap, subst, ◌∙◌, append_assoc, arith}
+use Rattle.std.proofs.Common.{◌≡◌, ◌≢◌, ◌⊎◌, ℕ, ◌+◌, ◌<◌, ◌≤◌, inl, inr, nat_lt, Bool, true, false, List, [], ◌∷◌, ◌++◌, length, refl, sym, ap, subst, ◌∙◌, append_assoc, arith}
+use Rattle.std.proofs.lemmas.List.{length-append}
+use Rattle.pic_machine.specs.declared.state.TrigState.TheVariants.{Initial}
 use Rattle.pic_machine.specs.declared.entry.Call.{Call}
 use Rattle.pic_machine.specs.declared.entry.Call.TheVariants.{NewTrigger, NewPlace, Arm, Attach}
 use Rattle.pic_machine.specs.declared.entry.Reply.TheVariants.{Full, Made}
 use Rattle.pic_machine.specs.Happened.{Happened}
 use Rattle.pic_machine.specs.State.{State}
-use Rattle.pic_machine.specs.Step.{after, made_below}
+use Rattle.pic_machine.specs.Step.{after, made_below, triggers_after}
 use Rattle.pic_machine.specs.History.{Follows, HasMade, IsLegal, NumbersFit, Origin, Takes, event, world, world_from}
 use Rattle.pic_machine.proofs.Histories.{world_from-append}
 use Rattle.pic_machine.proofs.Lists.{Apart, apart, before, behind, each-append, same}
-use Rattle.pic_machine.proofs.Steps.{places_stay}
+use Rattle.pic_machine.proofs.Steps.{places_stay, triggers_stay}
 
 -- ---- places
 
@@ -58,18 +60,51 @@ one_maker origin hs f g p legal mine theirs =
       at (before between is) = absurd (earlier_place origin mine.front between f g p here (subst (λ (zs : List Happened). Follows origin zs (event g NewPlace (Made p))) is there))
       at (behind between is) = absurd (earlier_place origin theirs.front between g f p there (subst (λ (zs : List Happened). Follows origin zs (event f NewPlace (Made p))) is here))
 
+-- a place that was made stands
+pub made_place : (origin : Origin) (hs : List Happened) (f p : ℕ) → IsLegal origin hs → HasMade hs f NewPlace p → p < (world origin hs).places
+made_place origin hs f p legal made =
+    let next = next_place origin made.front f p (legal.each made.front made.back (event f NewPlace (Made p)) made.is) in
+    let there : (world origin hs).places ≡ (world_from (after (world origin made.front) f NewPlace) made.back).places =
+    ap (λ (zs : List Happened). (world origin zs).places) made.is ∙ ap (λ (w : State). w.places) (world_from-append origin.world made.front (event f NewPlace (Made p) ∷ made.back)) in
+    omega (arith, next.behind, there, places_from (after (world origin made.front) f NewPlace) made.back)
+
+-- ---- triggers
+
+triggers_from : (w : State) (hs : List Happened) → length w.triggers ≤ length (world_from w hs).triggers
+triggers_from w [] = omega arith
+triggers_from w (h ∷ hs) = omega (arith, triggers_stay w h.entry.call, triggers_from (after w h.entry.fiber h.entry.call) hs)
+
+-- the number of a trigger is how many there were, too
+next_trigger : (w : State) (n : ℕ) (room : Bool) → nat_lt (length w.triggers) w.limits.triggers ≡ room → Made n ≡ made_below (length w.triggers) w.limits.triggers
+    → length (triggers_after w NewTrigger) ≡ n + 1
+next_trigger w n true room is =
+    let made : Made n ≡ Made (length w.triggers) = is ∙ (rw room refl) in
+    let number : n ≡ length w.triggers = cc in
+    rw room (length-append w.triggers (Initial ∷ []) ∙ ap (λ (k : ℕ). k + 1) (sym number))
+next_trigger w n false room is = let full : Made n ≡ Full = is ∙ (rw room refl) in absurd cc
+
+-- so a trigger that was made stands
+pub made_trigger : (origin : Origin) (hs : List Happened) (f t : ℕ) → IsLegal origin hs → HasMade hs f NewTrigger t → t < length (world origin hs).triggers
+made_trigger origin hs f t legal made =
+    let w = world origin made.front in
+    let follows : Follows origin made.front (event f NewTrigger (Made t)) = legal.each made.front made.back (event f NewTrigger (Made t)) made.is in
+    let next = next_trigger w t (nat_lt (length w.triggers) w.limits.triggers) refl follows.reply in
+    let there : length (world origin hs).triggers ≡ length (world_from (after w f NewTrigger) made.back).triggers =
+    ap (λ (zs : List Happened). length (world origin zs).triggers) made.is ∙ ap (λ (v : State). length v.triggers) (world_from-append origin.world made.front (event f NewTrigger (Made t) ∷ made.back)) in
+    omega (arith, next, there, triggers_from (after w f NewTrigger) made.back)
+
 -- ---- numbers
 
-pub made_still : (hs : List Happened) (h : Happened) (f : ℕ) (call : Call) (n : ℕ) → HasMade hs f call n → HasMade (hs ++ h ∷ []) f call n
-made_still hs h f call n made = record {
+pub made_stays : (hs more : List Happened) (f : ℕ) (call : Call) (n : ℕ) → HasMade hs f call n → HasMade (hs ++ more) f call n
+made_stays hs more f call n made = record {
   front = made.front;
-  back = made.back ++ h ∷ [];
-  is = ap (λ (zs : List Happened). zs ++ h ∷ []) made.is ∙ append_assoc made.front (event f call (Made n) ∷ made.back) (h ∷ []);
+  back = made.back ++ more;
+  is = ap (λ (zs : List Happened). zs ++ more) made.is ∙ append_assoc made.front (event f call (Made n) ∷ made.back) more;
 }
 
 made_either : (hs : List Happened) (h : Happened) (f t : ℕ) (Stood : Type 0) → Stood ⊎ HasMade hs f NewTrigger t → Stood ⊎ HasMade (hs ++ h ∷ []) f NewTrigger t
 made_either hs h f t Stood (inl stood) = inl stood
-made_either hs h f t Stood (inr made) = inr (made_still hs h f NewTrigger t made)
+made_either hs h f t Stood (inr made) = inr (made_stays hs (h ∷ []) f NewTrigger t made)
 
 -- what another fiber does takes no place that this one made
 not_taken : (origin : Origin) (hs : List Happened) (h : Happened) (f p : ℕ) → IsLegal origin hs → Follows origin hs h → h.entry.fiber ≢ f → HasMade hs f NewPlace p → Takes p h → ⊥
@@ -81,7 +116,7 @@ pub numbers_still : (origin : Origin) (hs : List Happened) (h : Happened) (f : �
     → NumbersFit origin hs f call → NumbersFit origin (hs ++ h ∷ []) f call
 numbers_still origin hs h f (Arm t action) legal follows other fits = made_either hs h f t (_) fits
 numbers_still origin hs h f (Attach p c t) legal follows other fits = (
-  made_still hs h f NewPlace p fits.0,
+  made_stays hs (h ∷ []) f NewPlace p fits.0,
   each-append (λ (x : Happened). Takes p x → ⊥) hs (h ∷ []) fits.1 (not_taken origin hs h f p legal follows other fits.0, tt),
 )
 numbers_still origin hs h f call legal follows other fits = tt

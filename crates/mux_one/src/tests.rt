@@ -494,7 +494,7 @@ fn a_fiber_that_waits_goes_on_behind_the_signal(rt: HostRuntime) -> Result<(), F
     expect_calls(&rt, &done, &expected);
     assert_eq!(rt;
         done.world().fibers(),
-        &[FiberState::Ended(Outcome::Returned(0)); 2]
+        [FiberState::Ended(Outcome::Returned(0)); 2].as_slice()
     );
     Ok(())
 }
@@ -515,10 +515,11 @@ fn a_fiber_waits_for_good(rt: HostRuntime) -> Result<(), Fail> {
     expect_calls(&rt, &done, &expected);
     assert_eq!(rt;
         done.world().fibers(),
-        &[
+        [
             FiberState::Ended(Outcome::Returned(0)),
             FiberState::Suspended(0),
         ]
+        .as_slice()
     );
     Ok(())
 }

@@ -1,6 +1,6 @@
 -- From what is left of a port to the view of its history.
 use Rattle.std.proofs.Common.{◌≡◌, ◌≢◌, ℕ, zero, suc, ◌+◌, ◌-◌, ◌<◌, ◌≤◌, ◌⊎◌, inl, inr, Bool, false, Option, Some, None, List, [], ◌∷◌, ◌++◌, length, slice_get, get_or, refl, ap, subst, ◌∙◌, arith}
-use Rattle.std.proofs.lemmas.Option.{get_or_from_slice_get, slice_get_cases, slice_get_within}
+use Rattle.std.proofs.lemmas.Option.{slice_get_cases, slice_get_within}
 use Rattle.pic_base.specs.declared.outcome.Outcome.{Outcome}
 use Rattle.pic_machine.specs.declared.closed.Closed.{Closed}
 use Rattle.pic_base.specs.declared.action.Action.TheVariants.{Resume}
@@ -18,6 +18,7 @@ use Rattle.pic_machine.specs.Log.{is_hidden, log, visible}
 use Rattle.pic_machine.specs.Suspending.{EndsAsleep, IsSuspended}
 use Rattle.pic_machine.proofs.Asleep.{ends_asleep}
 use Rattle.pic_machine.proofs.Fates.{EndsSo, ends_log}
+use Rattle.pic_machine.proofs.Finals.{stands_at_rest}
 use Rattle.pic_machine.proofs.Histories.{visible-push}
 use Rattle.script_tree.specs.Tree.{Tree}
 use Rattle.fiber_body.specs.Fits.{Fits}
@@ -74,11 +75,6 @@ module _ (origin : Origin) (share : Option Tree) (history : List Happened) (clos
   not_clock : (place : ℕ) → place + 1 ≢ 0
   not_clock place = λ is. absurd (omega (arith, is))
 
-  rests : (place : ℕ) (state : FiberState) → slice_get (world origin history).fibers place ≡ Some state → IsAtRest (world origin history).triggers state
-  rests place state is =
-      let w = world origin history in
-      subst (IsAtRest w.triggers) (get_or_from_slice_get w.fibers place state Live is) (left.final.rest place Live (slice_get_within w.fibers place state is))
-
   viewed : (place : ℕ) (body : Body) (state : FiberState) (view : FiberView) → slice_get closed.bodies.items place ≡ Some body → slice_get (world origin history).fibers place ≡ Some state → IsTakenFrom body view
       → IsFiberView origin history (place + 1) state view
   viewed place body state view there is taken =
@@ -87,7 +83,7 @@ module _ (origin : Origin) (share : Option Tree) (history : List Happened) (clos
         birth = body.birth;
         born = home.birth (not_clock place);
         text = taken.text;
-        state_is = taken.state ∙ (ap fate home.fitting.noted ∙ fate_at origin history left.main left.left.legal place state (rests place state is) is);
+        state_is = taken.state ∙ (ap fate home.fitting.noted ∙ fate_at origin history left.main left.left.legal place state (stands_at_rest (world origin history) place state left.final is) is);
         noted = taken.noted ∙ home.fitting.noted;
       }
 

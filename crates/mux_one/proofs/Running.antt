@@ -1,10 +1,11 @@
 -- How a port goes on from turn to turn, and that no turn is the last of too many.
 use Rattle.std.proofs.Common.{◌≡◌, ◌≢◌, ℕ, ◌+◌, ◌*◌, ◌≤◌, ◌<◌, ◌-◌, Bool, true, false, Some, None, List, [], ◌∷◌, ◌++◌, length, refl, sym, ap, subst, ◌∙◌, append_assoc, append-nil, arith}
 use Rattle.std.specs.List.{AllByRecursion}
+use Rattle.pic_base.specs.declared.limits.Limits.{Limits}
 use Rattle.pic_base.specs.Steps.{most_steps}
 use Rattle.pic_machine.specs.declared.entry.Call.TheVariants as call
 use Rattle.pic_machine.specs.declared.entry.Reply.TheVariants as reply
-use Rattle.pic_machine.specs.declared.state.FiberState.TheVariants.{Live}
+use Rattle.pic_machine.specs.declared.world.Start.{Start}
 use Rattle.pic_machine.specs.Happened.{Happened}
 use Rattle.pic_machine.specs.Final.{IsFinal}
 use Rattle.pic_machine.specs.Step.{IsLive}
@@ -12,36 +13,47 @@ use Rattle.pic_machine.specs.History.{event, world}
 use Rattle.pic_machine.specs.Log.{Others, log, own}
 use Rattle.pic_machine.specs.Order.{IsOwn, begin, turns_over, yields}
 use Rattle.pic_machine.specs.Sight.{Carry, Sight}
+use Rattle.pic_machine.specs.State.{CanStart, State, world_at}
+use Rattle.pic_machine.specs.Suspending.{IsTied}
 use Rattle.pic_machine.specs.Lending.{Began, Kept}
 use Rattle.pic_machine.specs.Turning.{Stopped}
 use Rattle.pic_machine.proofs.Histories.{IsLegal-nil}
-use Rattle.pic_machine.proofs.Quiet.{IsQuiet, IsQuiet-all, IsQuiet-world}
-use Rattle.pic_machine.proofs.Readiness.{IsReady, all_ended, first_is_live, ready_is_live}
-use Rattle.pic_machine.proofs.Standing.{log_stays}
 use Rattle.pic_machine.proofs.Owns.{yields_own}
+use Rattle.pic_machine.proofs.Readiness.{IsReady, first_is_live, none_live, ready_is_live}
+use Rattle.pic_machine.proofs.Rests.{IsRested, always_rested, final_when, start_rested}
+use Rattle.pic_machine.proofs.Staying.{log_stays}
+use Rattle.pic_machine.proofs.Steps.{IsWithin, start_within}
+use Rattle.pic_machine.proofs.Suspensions.{always_tied, start_tied}
 use Rattle.pic_machine.proofs.Turnings.{few_turns, live_within, turn_over, turn_yields, turns_over-append, yields-append}
 use Rattle.pic_machine.proofs.Turns.{turn_in_order}
 use Rattle.port_plain.specs.Shown.{Shown, origin_in, sight_of}
-use Rattle.mux_one.specs.UnderWay.{IsUnderWay, told_by}
+use Rattle.mux_one.specs.UnderWay.{IsUnderWay, most_turns, told_by}
 
 -- ---- between two turns
 
 -- before the first turn
-pub at_start : {S : Type 0} {p : Sight S} → p.origin.world.fibers ≡ Live ∷ [] → 1 ≤ p.origin.world.limits.fibers → p.front ≡ [] → p.out ≡ None → IsUnderWay p (1 ∷ [])
-at_start {p = p} main room fresh out = record {
-  main = main;
-  room = room;
+pub at_start : {S : Type 0} {p : Sight S} (start : Start) → p.origin.world ≡ world_at start → CanStart start → p.front ≡ [] → p.out ≡ None → IsUnderWay p (1 ∷ [])
+at_start {p = p} start begun can fresh out = record {
+  start = start;
+  begun = begun;
+  can = can;
   legal = rw fresh (IsLegal-nil p.origin);
   order = rw fresh begin;
   few = λ f. rw fresh (omega arith);
   out = out;
 }
 
-are_ready : {S : Type 0} {p : Sight S} {ready : List ℕ} → IsUnderWay p ready → IsReady (world p.origin p.front) ready
-are_ready now = ready_is_live (λ before. before ≡ []) _ _ _ now.main now.legal now.order
+within : {S : Type 0} {p : Sight S} {ready : List ℕ} → IsUnderWay p ready → IsWithin p.origin.world
+within now = rw now.begun (start_within now.start now.can)
 
-within : {S : Type 0} {p : Sight S} {ready : List ℕ} → IsUnderWay p ready → length p.origin.world.fibers ≤ p.origin.world.limits.fibers
-within now = rw now.main now.room
+tied : {S : Type 0} {p : Sight S} {ready : List ℕ} → IsUnderWay p ready → IsTied p.origin.world
+tied now = rw now.begun (start_tied now.start)
+
+rested : {S : Type 0} {p : Sight S} {ready : List ℕ} → IsUnderWay p ready → IsRested p.origin.world
+rested now = rw now.begun (start_rested now.start)
+
+are_ready : {S : Type 0} {p : Sight S} {ready : List ℕ} → IsUnderWay p ready → IsReady (world p.origin p.front) ready
+are_ready now = ready_is_live (λ before. before ≡ []) _ _ _ (ap (λ (w : State). w.fibers) now.begun) (tied now) now.legal now.order
 
 -- the first of the line is live
 pub first_live : {S : Type 0} {p : Sight S} {f : ℕ} {ready : List ℕ} → IsUnderWay p (f ∷ ready) → IsLive (world p.origin p.front) f
@@ -51,15 +63,18 @@ pub first_in_range : {S : Type 0} {p : Sight S} {f : ℕ} {ready : List ℕ} →
 first_in_range {p = p} now = (omega (arith, (first_live now).made), live_within p.origin p.front _ (within now) (first_live now))
 
 -- each turn leaves fewer to come
-pub fewer_left : {S : Type 0} {p : Sight S} {ready : List ℕ} {limit : ℕ} (before : ℕ) → p.origin.world.limits.fibers ≡ limit → IsUnderWay p ready → turns_over p.front ≡ before + 1
-    → limit * (most_steps + 2) - turns_over p.front < limit * (most_steps + 2) - before
-fewer_left {p = p} before same now further = let few = few_turns p.origin p.front (most_steps + 1) (within now) now.legal now.few in rw (sym same) (omega (arith, few, further))
+pub fewer_left : {S : Type 0} {p : Sight S} {ready : List ℕ} {limits : Limits} (before : ℕ) → p.origin.world.limits ≡ limits → IsUnderWay p ready → turns_over p.front ≡ before + 1
+    → most_turns limits - turns_over p.front < most_turns limits - before
+fewer_left {p = p} before same now further =
+    let few : turns_over p.front ≤ most_turns p.origin.world.limits = few_turns p.origin p.front (most_steps + 1) (within now) (tied now) now.legal now.few in
+    rw (sym same) (omega (arith, few, further))
 
 -- where the line is empty all is over, as the port finds
-pub found_over : {S : Type 0} {p q : Sight S} → p.alone ≡ true → IsQuiet p.origin.world → IsUnderWay p [] → Kept p q → IsFinal (world q.origin q.front)
-found_over {p = p} {q} alone quiet now kept =
+pub found_over : {S : Type 0} {p q : Sight S} → p.alone ≡ true → IsUnderWay p [] → Kept p q → IsFinal (world q.origin q.front)
+found_over {p = p} {q} alone now kept =
     let front : q.front ≡ p.front = kept.grown.later.front ∙ (ap (λ (hs : List Happened). p.front ++ hs) (kept.grown.none alone) ∙ append-nil p.front) in
-    rw (kept.grown.later.origin, front) (record { ended = all_ended (world p.origin p.front) (are_ready now); owed = IsQuiet-all (world p.origin p.front) (IsQuiet-world p.origin p.front quiet) })
+    rw (kept.grown.later.origin, front)
+    (final_when (world p.origin p.front) (always_tied p.origin p.front (tied now) now.legal) (always_rested p.origin p.front (rested now) now.legal) (none_live (world p.origin p.front) (are_ready now)))
 
 -- ---- one turn
 
@@ -101,8 +116,9 @@ module _ {S : Type 0} {p q r : Sight S} {f : ℕ} {ready line : List ℕ} {How :
   next_turn now few =
       let origins : r.origin ≡ p.origin = stopped.grew.later.origin ∙ began.later.origin in
       record {
-        main = rw origins now.main;
-        room = rw origins now.room;
+        start = now.start;
+        begun = rw origins now.begun;
+        can = now.can;
         legal = stopped.legal;
         order = turn_in_order (λ before. before ≡ []) p q r f [] ready line How alone now.order refl began stopped;
         few = few_each now.few (omega (arith, few, yields_own q.origin q.front f began.legal));

@@ -16,8 +16,8 @@ use pic_machine::{Call, Carried, ClaimRefusal, Idle, Poller, Port, PortFault, Re
 use port_plain::PlainPort;
 use std::alloc::Global;
 
-/// Runs every fiber to its end, each turn that of the fiber which has been ready longest. The port is
-/// as its `open` gave it.
+/// Runs the fibers until each one has ended, or waits for a trigger that nobody is left to signal: each
+/// turn is that of the fiber which has been ready longest. The port is as its `open` gave it.
 pub fn run_fifo<B: Carried, Q: Poller<PlainPort<B>>>(
     alloc: Global,
     poller: &Q,
@@ -104,6 +104,7 @@ fn poll<B: Carried, Q: Poller<PlainPort<B>>>(
     match poller.poll(port, line, body) {
         Turn::Ended => Ok(()),
         Turn::Yielded => Ok(()),
+        Turn::Parked => Ok(()),
         Turn::Again(_) => unreachable!("the port is alone"),
         Turn::Memory(_) => Err(Memory),
     }

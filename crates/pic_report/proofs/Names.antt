@@ -1,5 +1,8 @@
 -- The names of computations.
 use Rattle.std.proofs.Common.{◌≡◌, ◌≢◌, ℕ, zero, suc, ◌-◌, ◌<◌, List, [], ◌∷◌, length, map, get_or, codes, refl, sym, ap, ◌∙◌, arith}
+use Rattle.std.proofs.lemmas.List.{length-map}
+use Rattle.std.specs.Borrow.{Bor}
+use Rattle.pic_report.specs.Names.{read_names}
 use Rattle.pic_report.specs.Report.{comp_name}
 
 at_map : {A : Type 0} (f : A → List ℕ) (xs : List A) (k : ℕ) (d : A) (e : List ℕ) → k < length xs → get_or (map f xs) k e ≡ f (get_or xs k d)
@@ -13,3 +16,7 @@ comp_named f xs (suc k) name some within is =
     let one_less : suc k - 1 ≡ k = omega arith in
     let is' = rw one_less at is in
     ap f is' ∙ sym (at_map f xs k name (codes "-") (omega arith))
+
+-- as many names are kept as there are
+pub counted : (names : List (Bor (List ℕ))) (all : List (List ℕ)) → read_names names ≡ all → length names ≡ length all
+counted names all are = sym (length-map names (λ (name : Bor (List ℕ)). name.now)) ∙ ap (λ (ws : List (List ℕ)). length ws) are

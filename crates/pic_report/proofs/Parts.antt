@@ -7,8 +7,8 @@ use Rattle.script_tree.specs.Tree.{Tree}
 use Rattle.pic_report.specs.declared.view.FiberView.{FiberView}
 use Rattle.pic_report.specs.declared.view.RunView.{RunView}
 use Rattle.pic_report.specs.EntryText.{text_name}
-use Rattle.pic_report.specs.Report.{clock_line, comp_line, declared_names, fiber_line, joined, log_lines, run_line, said_lines, says_of, text_names}
-use Rattle.pic_report.specs.View.{all_entries, main_state, told_lines, traced_lines, view_text, viewed_lines, views_lines}
+use Rattle.pic_report.specs.Report.{clock_line, comp_line, comp_names, fiber_line, joined, log_lines, run_line, said_lines, says_of, suspended_count, text_names}
+use Rattle.pic_report.specs.View.{all_entries, main_state, states_of, told_lines, traced_lines, view_text, viewed_lines, views_lines}
 use Rattle.pic_report.proofs.Putting.{joined-append}
 
 -- what the first of the entries that are left says, and then what those behind it say
@@ -43,15 +43,15 @@ told_from names es c count within =
 pub view_parts : (script : Tree) (view : RunView)
     → view_text script view ≡ codes "picos report 1\n" ++ (joined (traced_lines (text_names script) view.trace)
     ++ (joined (views_lines (text_names script) view.log 1 view.fibers.items)
-    ++ (joined (told_lines (declared_names script) (all_entries view) 0 (length script.decls + 1))
-    ++ (clock_line view.now ++ run_line (main_state view.fibers.items)))))
+    ++ (joined (told_lines (comp_names script) (all_entries view) 0 (length (comp_names script) + 1))
+    ++ (clock_line view.now ++ run_line (main_state view.fibers.items) (suspended_count (states_of view.fibers.items))))))
 view_parts script view =
     let a = codes "picos report 1\n" in
     let b = traced_lines (text_names script) view.trace in
     let c = views_lines (text_names script) view.log 1 view.fibers.items in
-    let d = told_lines (declared_names script) (all_entries view) 0 (length script.decls + 1) in
+    let d = told_lines (comp_names script) (all_entries view) 0 (length (comp_names script) + 1) in
     let e = clock_line view.now in
-    let f = run_line (main_state view.fibers.items) in
+    let f = run_line (main_state view.fibers.items) (suspended_count (states_of view.fibers.items)) in
     ap (λ (w : List ℕ). a ++ w) (joined-append b (c ++ (d ++ (e ∷ (f ∷ []))))
     ∙ ap (λ (w : List ℕ). joined b ++ w) (joined-append c (d ++ (e ∷ (f ∷ [])))
     ∙ ap (λ (w : List ℕ). joined c ++ w) (joined-append d (e ∷ (f ∷ []))

@@ -17,8 +17,8 @@ use Rattle.pic_machine.proofs.Comps.{comps_stay}
 use Rattle.script_tree.specs.Tree.{Tree}
 use Rattle.pic_report.specs.declared.view.FiberView.{FiberView}
 use Rattle.pic_report.specs.declared.view.RunView.{RunView}
-use Rattle.pic_report.specs.Report.{comps_lines, declared_names, fiber_lines, fibers_lines, joined, name_of_birth, report, report_lines, text_names, trace_lines}
-use Rattle.pic_report.specs.View.{BeginsRunning, IsFiberView, IsTraceOf, IsViewOf, all_entries, main_state, told_lines, traced_lines, view_lines, view_text, viewed_lines, views_lines}
+use Rattle.pic_report.specs.Report.{comps_lines, comp_names, fiber_lines, fibers_lines, joined, name_of_birth, report, report_lines, run_line, suspended_count, text_names, trace_lines}
+use Rattle.pic_report.specs.View.{BeginsRunning, IsFiberView, IsTraceOf, IsViewOf, all_entries, states_of, told_lines, traced_lines, view_lines, view_text, viewed_lines, views_lines}
 use Rattle.pic_report.proofs.Told.{all_tell}
 
 -- ---- the trace
@@ -48,6 +48,19 @@ module _ (script : Tree) (origin : Origin) (hs : List Happened) (with_log : Bool
       ap (λ (w : List (List ℕ)). w ++ views_lines (text_names script) with_log (f + 1) views) (one_is f state view here)
       ∙ ap (λ (w : List (List ℕ)). fiber_lines (text_names script) with_log (name_of_birth (text_names script) (birth_in origin hs f)) f state (visible (log hs f)) ++ w) rest
 
+-- the fibers stand as their views say
+states_are : (origin : Origin) (hs : List Happened) (f : ℕ) (states : List FiberState) (views : List FiberView) → length views ≡ length states
+    → ((i : ℕ) (state : FiberState) (view : FiberView) → slice_get states i ≡ Some state → slice_get views i ≡ Some view → IsFiberView origin hs (i + f) state view) → states_of views ≡ states
+states_are origin hs f [] [] count are = refl
+states_are origin hs f [] (view ∷ views) count are = absurd (omega (arith, count))
+states_are origin hs f (state ∷ states) [] count are = absurd (omega (arith, count))
+states_are origin hs f (state ∷ states) (view ∷ views) count are =
+    let rest = states_are origin hs (f + 1) states views (omega (arith, count)) (λ i s v p q. subst (λ (k : ℕ). IsFiberView origin hs k s v) (let same : suc i + f ≡ i + (f + 1) = omega arith in same) (are (suc i) s v p q)) in
+    rw ((are 0 state view refl refl).state_is, rest) refl
+
+pub states_viewed : (origin : Origin) (hs : List Happened) (traced logged : Bool) (view : RunView) → IsViewOf origin hs traced logged view → states_of view.fibers.items ≡ (world origin hs).fibers
+states_viewed origin hs traced logged view is = states_are origin hs 1 (world origin hs).fibers view.fibers.items is.count is.fiber
+
 -- ---- computations
 
 told_are : (names : List (List ℕ)) (es all : List Entry) (c : ℕ) (states : List CompState) → ((i : ℕ) (state : CompState) → slice_get states i ≡ Some state → (outcome_of state ≡ outcome_by (completion all (c + i))) × (completion es (c + i) ≡ completion all (c + i)))
@@ -61,7 +74,7 @@ told_are names es all c (state ∷ states) are =
     let rest = told_are names es all (c + 1) states (λ i s p. let more : c + suc i ≡ (c + 1) + i = omega arith in subst (λ (k : ℕ). (outcome_of s ≡ outcome_by (completion all k)) × (completion es k ≡ completion all k)) more (are (suc i) s p)) in
     rw (tells, is, rest) refl
 
-runs_at_first : (n c : ℕ) → c < n → slice_get (replicate n Running) c ≡ Some Running
+runs_at_first : (n c : ℕ) → c < n → slice_get (replicate n (Running [])) c ≡ Some (Running [])
 runs_at_first zero c small = absurd (omega (arith, small))
 runs_at_first (suc n) zero small = refl
 runs_at_first (suc n) (suc c) small = runs_at_first n c (omega (arith, small))
@@ -69,8 +82,8 @@ runs_at_first (suc n) (suc c) small = runs_at_first n c (omega (arith, small))
 -- ---- the whole
 
 module _ (script : Tree) (origin : Origin) (hs : List Happened) (traced with_log : Bool) (view : RunView) (comps : BeginsRunning script origin) (is : IsViewOf origin hs traced with_log view) where
-  count_now : length (world origin hs).comps ≡ length script.decls + 1
-  count_now = comps_stay origin hs ∙ (ap (λ (states : List CompState). length states) comps ∙ length-replicate (length script.decls + 1) Running)
+  count_now : length (world origin hs).comps ≡ length (comp_names script) + 1
+  count_now = comps_stay origin hs ∙ (ap (λ (states : List CompState). length states) comps ∙ length-replicate (length (comp_names script) + 1) (Running []))
 
   logs_are : (i : ℕ) (seen : FiberView) → slice_get view.fibers.items i ≡ Some seen → seen.entries.entries ≡ visible (log hs (1 + i))
   logs_are i seen there =
@@ -80,10 +93,10 @@ module _ (script : Tree) (origin : Origin) (hs : List Happened) (traced with_log
 
   comps_are : (c : ℕ) (state : CompState) → slice_get (world origin hs).comps c ≡ Some state → (outcome_of state ≡ outcome_by (completion (entries hs) c)) × (completion (all_entries view) c ≡ completion (entries hs) c)
   comps_are c state there =
-      let small : c < length script.decls + 1 = omega (arith, count_now, slice_get_within (world origin hs).comps c state there) in
+      let small : c < length (comp_names script) + 1 = omega (arith, count_now, slice_get_within (world origin hs).comps c state there) in
       let runs : StandsAt origin.world.comps c None = record {
-        state = Running;
-        there = subst (λ (states : List CompState). slice_get states c ≡ Some Running) (sym comps) (runs_at_first (length script.decls + 1) c small);
+        state = Running [];
+        there = subst (λ (states : List CompState). slice_get states c ≡ Some (Running [])) (sym comps) (runs_at_first (length (comp_names script) + 1) c small);
         is = refl;
       } in
       let told = comp_told origin hs c is.legal runs in
@@ -93,20 +106,14 @@ module _ (script : Tree) (origin : Origin) (hs : List Happened) (traced with_log
         all_tell c hs (comp_once origin hs c is.legal runs) view.fibers.items view.clock_entries.entries logs_are is.clock (λ x made. let within = completer_made origin hs c x is.legal made in omega (arith, within, is.count)),
       )
 
-  main_is : (states : List FiberState) (views : List FiberView) → length views ≡ length states → AreViews script origin hs with_log 1 states views → main_state views ≡ slice_get states 0
-  main_is [] [] count are = refl
-  main_is [] (view ∷ views) count are = absurd (omega (arith, count))
-  main_is (state ∷ states) [] count are = absurd (omega (arith, count))
-  main_is (state ∷ states) (main ∷ views) count are = ap Some (are 0 state main refl refl).state_is
-
   views : AreViews script origin hs with_log 1 (world origin hs).fibers view.fibers.items
   views = λ i state seen p q. subst (λ (k : ℕ). IsFiberView origin hs k state seen) (let same : i + 1 ≡ 1 + i = omega arith in same) (is.fiber i state seen p q)
 
   pub view_report : view_text script view ≡ report script origin hs traced with_log
   view_report =
       let w = world origin hs in
-      let told : told_lines (declared_names script) (all_entries view) 0 (length script.decls + 1) ≡ comps_lines (declared_names script) (entries hs) 0 w.comps =
-      ap (λ (n : ℕ). told_lines (declared_names script) (all_entries view) 0 n) (sym count_now) ∙ told_are (declared_names script) (all_entries view) (entries hs) 0 w.comps (λ i state there. let same : i ≡ 0 + i = omega arith in subst (λ (k : ℕ). (outcome_of state ≡ outcome_by (completion (entries hs) k)) × (completion (all_entries view) k ≡ completion (entries hs) k)) same (comps_are i state there)) in
+      let told : told_lines (comp_names script) (all_entries view) 0 (length (comp_names script) + 1) ≡ comps_lines (comp_names script) (entries hs) 0 w.comps =
+      ap (λ (n : ℕ). told_lines (comp_names script) (all_entries view) 0 n) (sym count_now) ∙ told_are (comp_names script) (all_entries view) (entries hs) 0 w.comps (λ i state there. let same : i ≡ 0 + i = omega arith in subst (λ (k : ℕ). (outcome_of state ≡ outcome_by (completion (entries hs) k)) × (completion (all_entries view) k ≡ completion (entries hs) k)) same (comps_are i state there)) in
       let lines : view_lines script view ≡ report_lines script origin hs traced with_log w =
-      rw (trace_is (text_names script) hs traced view.trace is.traces, is.logs, views_are script origin hs with_log 1 w.fibers view.fibers.items is.count views, told, is.now, main_is w.fibers view.fibers.items is.count views) refl in
+      rw (trace_is (text_names script) hs traced view.trace is.traces, is.logs, views_are script origin hs with_log 1 w.fibers view.fibers.items is.count views, told, is.now, states_viewed origin hs traced with_log view is) refl in
       ap joined lines

@@ -6,3 +6,4 @@ pub mod Output
 pub mod Refusals
 pub mod Lines
 pub mod Taken
+pub mod Names

@@ -1,7 +1,7 @@
 -- The text of a report.
 use Rattle.std.proofs.Common.{zero, suc}
-use Rattle.std.specs.Prelude.{ℕ, ◌+◌, Bool, true, false, Option, Some, None, List, [], ◌∷◌, ◌++◌, codes, decimal, slice_index_or, slice_get, map}
-use Rattle.std.specs.List.{flat_map}
+use Rattle.std.specs.Prelude.{ℕ, ◌+◌, Bool, true, false, Option, Some, None, List, [], ◌∷◌, ◌++◌, codes, decimal, slice_index_or, slice_get, map, filter}
+use Rattle.std.specs.List.{count_by, flat_map}
 use Rattle.pic_base.specs.declared.outcome.Outcome.{Outcome}
 use Rattle.pic_base.specs.declared.outcome.Outcome.TheVariants.{Cancelled}
 use Rattle.pic_base.specs.Outcome.{outcome_text}
@@ -13,13 +13,15 @@ use Rattle.pic_machine.specs.Happened.{Happened}
 use Rattle.pic_machine.specs.declared.state.CompState.{CompState}
 use Rattle.pic_machine.specs.declared.state.Completion.{Completion}
 use Rattle.pic_machine.specs.declared.state.FiberState.{FiberState}
-use Rattle.pic_machine.specs.declared.state.FiberState.TheVariants.{Live, Ended}
+use Rattle.pic_machine.specs.declared.state.FiberState.TheVariants.{Live, Suspended, Ended}
 use Rattle.pic_machine.specs.State.{State}
 use Rattle.pic_machine.specs.Closing.{time}
 use Rattle.pic_machine.specs.Completing.{completion, outcome_of}
 use Rattle.pic_machine.specs.History.{Origin, birth_in, world}
 use Rattle.pic_machine.specs.Log.{entries, log, visible}
 use Rattle.script_tree.specs.declared.program.Decl.{Decl}
+use Rattle.script_tree.specs.declared.program.Kind.{Kind}
+use Rattle.script_tree.specs.declared.program.Kind.TheVariants.{Comp}
 use Rattle.script_tree.specs.declared.program.Text.{Text}
 use Rattle.script_tree.specs.Tree.{Tree}
 use Rattle.pic_report.specs.EntryText.{entry_text, text_name}
@@ -30,9 +32,14 @@ use Rattle.pic_report.specs.EntryText.{entry_text, text_name}
 abbrev pub text_names : Tree → List (List ℕ)
 text_names script = map (λ (t : Text). t.name) script.texts
 
+-- whether the declaration makes a computation
+abbrev pub is_comp : Kind → Bool
+is_comp Comp = true
+is_comp _ = false
+
 -- the names of the declared computations, in order
-abbrev pub declared_names : Tree → List (List ℕ)
-declared_names script = map (λ (d : Decl). d.name) script.decls
+abbrev pub comp_names : Tree → List (List ℕ)
+comp_names script = map (λ (d : Decl). d.name) (filter (λ (d : Decl). is_comp d.kind) script.decls)
 
 -- the name of the text that a fiber of this birth runs
 abbrev pub name_of_birth : List (List ℕ) → Option Birth → List ℕ
@@ -58,9 +65,10 @@ trace_lines names true es = map (trace_line names) es
 
 -- ---- fibers
 
--- how the fiber stands: in a final world it has ended
+-- how the fiber stands: in a final world it has ended, or is suspended at a trigger
 abbrev pub fiber_state_text : FiberState → List ℕ
 fiber_state_text Live = codes "live"
+fiber_state_text (Suspended trigger) = codes "suspended t" ++ decimal trigger
 fiber_state_text (Ended outcome) = outcome_text outcome
 
 -- the fiber's number, the name of its text and how it stands
@@ -127,18 +135,31 @@ comps_lines names es c (state ∷ states) =
 abbrev pub clock_line : ℕ → List ℕ
 clock_line now = codes "clock " ++ (decimal now ++ codes "\n")
 
+abbrev pub is_suspended : FiberState → Bool
+is_suspended (Suspended trigger) = true
+is_suspended _ = false
+
+-- how many of the fibers are suspended
+abbrev pub suspended_count : List FiberState → ℕ
+suspended_count states = count_by is_suspended states
+
 -- how main ended
-abbrev pub run_line : Option FiberState → List ℕ
-run_line (Some (Ended (Cancelled code))) = codes "run raised " ++ (decimal code ++ codes "\n")
-run_line _ = codes "run done\n"
+abbrev pub main_line : Option FiberState → List ℕ
+main_line (Some (Ended (Cancelled code))) = codes "run raised " ++ (decimal code ++ codes "\n")
+main_line _ = codes "run done\n"
+
+-- how the run ended: how many fibers are suspended, and where none is, how main ended
+abbrev pub run_line : Option FiberState → ℕ → List ℕ
+run_line main zero = main_line main
+run_line main (suc others) = codes "run stuck " ++ (decimal (suc others) ++ codes "\n")
 
 -- the lines of a report of this world, to which this history of the script led from its origin
 abbrev pub report_lines : Tree → Origin → List Happened → Bool → Bool → State → List (List ℕ)
 report_lines script origin hs trace with_log w = codes "picos report 1\n"
     ∷ (trace_lines (text_names script) trace (entries hs)
     ++ (fibers_lines script origin hs with_log 1 w.fibers
-    ++ (comps_lines (declared_names script) (entries hs) 0 w.comps
-    ++ (clock_line (time hs) ∷ (run_line (slice_get w.fibers 0) ∷ [])))))
+    ++ (comps_lines (comp_names script) (entries hs) 0 w.comps
+    ++ (clock_line (time hs) ∷ (run_line (slice_get w.fibers 0) (suspended_count w.fibers) ∷ [])))))
 
 -- the text of lines
 abbrev pub joined : List (List ℕ) → List ℕ

@@ -1,6 +1,6 @@
 -- What of a run a report is made from, and the text that is made from it.
 use Rattle.std.proofs.Common.{zero, suc}
-use Rattle.std.specs.Prelude.{◌≡◌, ℕ, ◌+◌, Bool, true, false, Option, Some, None, List, [], ◌∷◌, ◌++◌, codes, length, replicate, slice_get}
+use Rattle.std.specs.Prelude.{◌≡◌, ℕ, ◌+◌, Bool, true, false, Option, Some, None, List, [], ◌∷◌, ◌++◌, codes, length, map, replicate, slice_get}
 use Rattle.std.specs.List.{flat_map}
 use Rattle.entry_log.specs.Logged.{Recorded}
 use Rattle.pic_machine.specs.declared.birth.Birth.{Birth}
@@ -21,13 +21,13 @@ use Rattle.fiber_body.specs.Shown.{Shown as Body, carry_of}
 use Rattle.pic_report.specs.declared.view.FiberView.{FiberView}
 use Rattle.pic_report.specs.declared.view.RunView.{RunView}
 use Rattle.pic_report.specs.EntryText.{text_name}
-use Rattle.pic_report.specs.Report.{clock_line, comp_line, declared_names, fiber_lines, run_line, text_names, trace_lines, joined}
+use Rattle.pic_report.specs.Report.{clock_line, comp_line, comp_names, fiber_lines, run_line, suspended_count, text_names, trace_lines, joined}
 
 -- ---- from a history
 
--- the root and the declared computations stand at the origin, and all of them run
+-- the root and the declared computations stand at the origin, and all of them run with nothing attached
 abbrev pub BeginsRunning : Tree → Origin → Type 0
-BeginsRunning script origin = origin.world.comps ≡ replicate (length script.decls + 1) Running
+BeginsRunning script origin = origin.world.comps ≡ replicate (length (comp_names script) + 1) (Running [])
 
 -- this is left of a machine whose bodies shared this, behind the history, at whose end nothing is left to
 -- do; at its origin main is the one fiber
@@ -89,18 +89,22 @@ told_lines names es c zero = []
 told_lines names es c (suc count) =
     comp_line names c (completion es c) (outcome_by (completion es c)) ∷ told_lines names es (c + 1) count
 
+-- how the fibers stand
+abbrev pub states_of : List FiberView → List FiberState
+states_of views = map (λ (view : FiberView). view.state) views
+
 -- how the first fiber stands
 abbrev pub main_state : List FiberView → Option FiberState
-main_state [] = None
-main_state (main ∷ views) = Some main.state
+main_state views = slice_get (states_of views) 0
 
 -- the lines of a view of a run of the script
 abbrev pub view_lines : Tree → RunView → List (List ℕ)
 view_lines script view = codes "picos report 1\n"
     ∷ (traced_lines (text_names script) view.trace
     ++ (views_lines (text_names script) view.log 1 view.fibers.items
-    ++ (told_lines (declared_names script) (all_entries view) 0 (length script.decls + 1)
-    ++ (clock_line view.now ∷ (run_line (main_state view.fibers.items) ∷ [])))))
+    ++ (told_lines (comp_names script) (all_entries view) 0 (length (comp_names script) + 1)
+    ++ (clock_line view.now
+    ∷ (run_line (main_state view.fibers.items) (suspended_count (states_of view.fibers.items)) ∷ [])))))
 
 -- the text of a view of a run of the script
 abbrev pub view_text : Tree → RunView → List ℕ

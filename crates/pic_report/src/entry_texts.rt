@@ -3,7 +3,11 @@ ghost use Rattle.std.specs.Prelude.{◌≡◌};
 ghost use Rattle.pic_report.specs.EntryText.{text_name};
 ghost use Rattle.pic_report.specs.Report.{text_names};
 
-use pic_machine::{Call, CompleteReply, Entry, Reply};
+use crate::reply_words::{
+    ActionText, ArmedWords, AttachedWords, CompletedWords, MadeWords, PeekedWords, SeenWords,
+    SignalledWords,
+};
+use pic_machine::{Call, Entry};
 use script_tree::Program;
 use std::fmt;
 
@@ -26,6 +30,35 @@ impl fmt::Display for EntryText<'_> {
         match self.entry.call {
             Call::Turn => f.write_str("turn"),
             Call::Yield => f.write_str("yield"),
+            Call::NewTrigger => {
+                let told = MadeWords { sign: "t", reply };
+                write!(f, "new_trigger {told}")
+            }
+            Call::NewPlace => {
+                let told = MadeWords { sign: "a", reply };
+                write!(f, "new_place {told}")
+            }
+            Call::Look(trigger) => {
+                let told = SeenWords { reply };
+                write!(f, "look t{trigger} {told}")
+            }
+            Call::Arm { trigger, action } => {
+                let action = ActionText { action };
+                let told = ArmedWords { reply };
+                write!(f, "arm t{trigger} {action} {told}")
+            }
+            Call::Signal(trigger) => {
+                let told = SignalledWords { reply };
+                write!(f, "signal t{trigger} {told}")
+            }
+            Call::Attach {
+                place,
+                comp,
+                trigger,
+            } => {
+                let told = AttachedWords { reply };
+                write!(f, "attach a{place} c{comp} t{trigger} {told}")
+            }
             Call::Complete { comp, outcome } => {
                 let told = CompletedWords { reply };
                 write!(f, "complete c{comp} {outcome} {told}")
@@ -35,76 +68,12 @@ impl fmt::Display for EntryText<'_> {
                 write!(f, "peek c{comp} {told}")
             }
             Call::Fork { text, value } => {
-                let told = ForkedWords { reply };
+                let told = MadeWords { sign: "", reply };
                 let name = text_name(self.program, text);
                 write!(f, "fork {told} {name} {value}")
             }
             Call::Say(value) => write!(f, "say {value}"),
             Call::End(outcome) => write!(f, "end {outcome}"),
-        }
-    }
-}
-
-/// Prints what the reply of a completion tells: whether the call won, and the outcome that stood if
-/// not.
-#[derive(Drop)]
-struct CompletedWords {
-    reply: Reply,
-}
-
-impl fmt::Display for CompletedWords {
-    ghost use Rattle.std.specs.Prelude.{Some};
-    ghost use Rattle.pic_report.specs.EntryText.{completed_words};
-
-    ghost output = { λ shown. Some (completed_words shown.reply) };
-
-    fn fmt<W: fmt::Write>(&self, f: &mut fmt::Formatter<W>) -> fmt::Result {
-        match self.reply {
-            Reply::Completed(CompleteReply::Won) => f.write_str("won"),
-            Reply::Completed(CompleteReply::Lost(standing)) => write!(f, "lost {standing}"),
-            _ => f.write_str("-"),
-        }
-    }
-}
-
-/// Prints what the reply of a look at a computation tells: how the computation stood.
-#[derive(Drop)]
-struct PeekedWords {
-    reply: Reply,
-}
-
-impl fmt::Display for PeekedWords {
-    ghost use Rattle.std.specs.Prelude.{Some};
-    ghost use Rattle.pic_report.specs.EntryText.{peeked_words};
-
-    ghost output = { λ shown. Some (peeked_words shown.reply) };
-
-    fn fmt<W: fmt::Write>(&self, f: &mut fmt::Formatter<W>) -> fmt::Result {
-        match self.reply {
-            Reply::Peeked(None) => f.write_str("running"),
-            Reply::Peeked(Some(outcome)) => write!(f, "{outcome}"),
-            _ => f.write_str("-"),
-        }
-    }
-}
-
-/// Prints what the reply of a fork tells: the child's number, or that there was no room.
-#[derive(Drop)]
-struct ForkedWords {
-    reply: Reply,
-}
-
-impl fmt::Display for ForkedWords {
-    ghost use Rattle.std.specs.Prelude.{Some};
-    ghost use Rattle.pic_report.specs.EntryText.{forked_words};
-
-    ghost output = { λ shown. Some (forked_words shown.reply) };
-
-    fn fmt<W: fmt::Write>(&self, f: &mut fmt::Formatter<W>) -> fmt::Result {
-        match self.reply {
-            Reply::Made(number) => write!(f, "{number}"),
-            Reply::Full => f.write_str("full"),
-            _ => f.write_str("-"),
         }
     }
 }

@@ -63,6 +63,13 @@ fn put_state<K: Sink>(
 {
     match state {
         FiberState::Live => put_line(format_args!("fiber {number} {name} live\n"), buffer, out),
+        FiberState::Suspended(trigger) => {
+            put_line(
+                format_args!("fiber {number} {name} suspended t{trigger}\n"),
+                buffer,
+                out,
+            )
+        }
         FiberState::Ended(outcome) => {
             put_line(
                 format_args!("fiber {number} {name} {outcome}\n"),

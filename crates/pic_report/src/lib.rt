@@ -14,6 +14,7 @@ mod entry_texts;
 mod fibers;
 mod output;
 mod refusal;
+mod reply_words;
 mod view;
 mod writing;
 

@@ -10,6 +10,8 @@ use script_tree::parse;
 use std::alloc::Global;
 use std::test::Fail;
 
+mod triggers;
+
 /// A script with a computation and two texts.
 const SCRIPT: &[u8] = b"picos 1\ncomp a\nfiber f\nend\nmain\nend\n";
 
@@ -19,13 +21,9 @@ fn note(log: &mut FiberLog, call: Call, reply: Reply) -> Result<(), Memory> {
     Ok(())
 }
 
-fn push(log: &mut EntryLog, fiber: u32, call: Call) -> Result<(), Memory> {
+fn push(log: &mut EntryLog, fiber: u32, call: Call, reply: Reply) -> Result<(), Memory> {
     log.reserve()?;
-    log.push_reserved(Entry {
-        fiber,
-        call,
-        reply: Reply::Plain,
-    });
+    log.push_reserved(Entry { fiber, call, reply });
     Ok(())
 }
 
@@ -57,8 +55,8 @@ fn view(alloc: Global, log: bool) -> Result<RunView, Fail> {
     note(&mut child, cancel, won)?;
     note(&mut child, Call::End(six), Reply::Plain)?;
     let mut trace = EntryLog::new(alloc);
-    push(&mut trace, 1, Call::Turn)?;
-    push(&mut trace, 2, Call::Say(7))?;
+    push(&mut trace, 1, Call::Turn, Reply::Plain)?;
+    push(&mut trace, 2, Call::Say(7), Reply::Plain)?;
     let mut fibers = Vec::new(alloc);
     fibers.push(FiberView {
         text: 1,
@@ -87,9 +85,9 @@ const WHOLE: &[u8] =
 const SHORT: &[u8] =
     b"picos report 1\nfiber 1 main returned 5\nfiber 2 f cancelled 6\n  say 7\ncomp 0 root running\ncomp 1 a cancelled 6 by 2\nclock 0\nrun done\n";
 
-/// What a sink holds after the report, if it takes so many bytes a call and fails at this call (none at
-/// 0), and whether the report was written whole.
-fn put_to(alloc: Global, log: bool, most: usize, failing: u64) -> Result<(bool, Vec<u8>), Fail>
+/// What a sink holds after the report of the view, if it takes so many bytes a call and fails at this
+/// call (none at 0), and whether the report was written whole.
+fn put_to(alloc: Global, view: &RunView, most: usize, failing: u64) -> Result<(bool, Vec<u8>), Fail>
     requires { 0 < most }
 {
     let mut calls = Vec::new(alloc);
@@ -104,17 +102,18 @@ fn put_to(alloc: Global, log: bool, most: usize, failing: u64) -> Result<(bool, 
     let Ok(program) = parse(alloc, SCRIPT) else {
         return Ok((false, out.bytes));
     };
-    let view = view(alloc, log)?;
-    let written = write_report(alloc, &program, &view, &mut out);
+    let written = write_report(alloc, &program, view, &mut out);
     Ok((written.is_ok(), out.bytes))
 }
 
 #[test]
 fn texts(rt: HostRuntime) -> Result<(), Fail> {
-    let (whole, taken) = put_to(rt.alloc(), true, usize::MAX, 0)?;
+    let traced = view(rt.alloc(), true)?;
+    let (whole, taken) = put_to(rt.alloc(), &traced, usize::MAX, 0)?;
     assert!(rt; whole);
     assert_eq!(rt; taken.as_slice(), WHOLE);
-    let (whole, taken) = put_to(rt.alloc(), false, usize::MAX, 0)?;
+    let short = view(rt.alloc(), false)?;
+    let (whole, taken) = put_to(rt.alloc(), &short, usize::MAX, 0)?;
     assert!(rt; whole);
     assert_eq!(rt; taken.as_slice(), SHORT);
     Ok(())
@@ -123,7 +122,8 @@ fn texts(rt: HostRuntime) -> Result<(), Fail> {
 #[test]
 fn a_sink_fails(rt: HostRuntime) -> Result<(), Fail> {
     // Each line is one piece.
-    let (whole, taken) = put_to(rt.alloc(), true, usize::MAX, 4)?;
+    let view = view(rt.alloc(), true)?;
+    let (whole, taken) = put_to(rt.alloc(), &view, usize::MAX, 4)?;
     assert!(rt; !whole);
     assert_eq!(rt;
         taken.as_slice(),
@@ -132,7 +132,7 @@ fn a_sink_fails(rt: HostRuntime) -> Result<(), Fail> {
 
     // A sink that takes two bytes a call, and at last fails within a line: eight calls take the first
     // one, whose last byte comes alone.
-    let (whole, taken) = put_to(rt.alloc(), true, 2, 12)?;
+    let (whole, taken) = put_to(rt.alloc(), &view, 2, 12)?;
     assert!(rt; !whole);
     assert_eq!(rt; taken.as_slice(), b"picos report 1\ntrace ".as_slice());
     Ok(())

@@ -3,15 +3,15 @@ ghost use Rattle.std.specs.Prelude.{◌≡◌, Bool, List, Option, IfOk};
 ghost use Rattle.pic_machine.specs.Happened.{Happened};
 ghost use Rattle.pic_machine.specs.History.{Origin};
 ghost use Rattle.script_tree.specs.Tree.{Tree};
-ghost use Rattle.pic_report.specs.Lines.{ended_in, fate};
-ghost use Rattle.pic_report.specs.Report.{report};
-ghost use Rattle.pic_report.specs.View.{BeginsRunning, IsLeftOf, IsTraceOf, IsViewOf, main_state, view_text};
+ghost use Rattle.pic_report.specs.Lines.{fate, left_by};
+ghost use Rattle.pic_report.specs.Report.{is_suspended, report, suspended_count};
+ghost use Rattle.pic_report.specs.View.{BeginsRunning, IsLeftOf, IsTraceOf, IsViewOf, main_state, states_of, view_text};
 ghost use Rattle.pic_report.specs.Taken.{IsTakenFrom, AreTakenFrom};
 
 use entry_log::{EntryLog, FiberLog};
 use fiber_body::Body;
-use pic_base::Memory;
-use pic_machine::{Call, Closed, FiberState};
+use pic_base::{Action, Memory};
+use pic_machine::{ArmReply, Call, Closed, Entry, FiberState, Reply};
 use std::alloc::Global;
 
 /// What a report tells of a fiber: the text that it runs, a place among the program's texts, how it
@@ -45,6 +45,26 @@ impl RunView {
             [] => None,
         }
     }
+
+    /// How many fibers are suspended.
+    pub fn suspended_count(&self) -> usize
+        ensures { result ≡ suspended_count (states_of self.entry.now.fibers.items) }
+    {
+        let mut count = 0;
+        for fiber in &self.fibers {
+            if is_suspended(fiber.state) {
+                count += 1;
+            }
+        }
+        count
+    }
+}
+
+/// Whether a fiber that stands so is suspended.
+fn is_suspended(state: FiberState) -> bool
+    ensures { result ≡ is_suspended state }
+{
+    matches!(state, FiberState::Suspended(_))
 }
 
 /// What a report tells of a run, of which this is left.
@@ -99,22 +119,30 @@ fn fiber_view(body: Body) -> FiberView
     }
 }
 
-/// How a fiber stands that did this: its end is the last that it does.
+/// How a fiber stands that did this: its end, or the arming of a trigger at which it is suspended, is
+/// the last that it does.
 fn fate(entries: &FiberLog) -> FiberState
     ensures { result ≡ fate entries.now.entries }
 {
     match entries.last() {
-        Some(entry) => ended_in(entry.call),
+        Some(entry) => left_by(entry),
         None => FiberState::Live,
     }
 }
 
-/// How a fiber stands whose last call is this.
-fn ended_in(call: Call) -> FiberState
-    ensures { result ≡ ended_in call }
+/// How a fiber stands whose last entry this is.
+fn left_by(entry: Entry) -> FiberState
+    ensures { result ≡ left_by entry.call entry.reply }
 {
-    match call {
-        Call::End(outcome) => FiberState::Ended(outcome),
+    match (entry.call, entry.reply) {
+        (Call::End(outcome), _) => FiberState::Ended(outcome),
+        (
+            Call::Arm {
+                trigger,
+                action: Action::Resume(_),
+            },
+            Reply::Armed(ArmReply::Set),
+        ) => FiberState::Suspended(trigger),
         _ => FiberState::Live,
     }
 }

@@ -1,6 +1,6 @@
 //! Writes a report, line by line.
 ghost use Rattle.pic_report.specs.Output.{Puts};
-ghost use Rattle.pic_report.specs.Report.{clock_line, joined, run_line, text_names};
+ghost use Rattle.pic_report.specs.Report.{clock_line, joined, main_line, run_line, text_names};
 ghost use Rattle.pic_report.specs.View.{traced_lines, view_text};
 
 use crate::comps::put_comps;
@@ -33,7 +33,7 @@ pub fn write_report<K: Sink>(
     put_fibers(program, view.fibers.as_slice(), view.log, &mut buffer, out)?;
     put_comps(alloc, program, view, &mut buffer, out)?;
     put_clock(view.now, &mut buffer, out)?;
-    put_end(view.main_state(), &mut buffer, out)
+    put_end(view.main_state(), view.suspended_count(), &mut buffer, out)
 }
 
 /// Writes the trace, where there is one.
@@ -60,14 +60,31 @@ fn put_clock<K: Sink>(now: u32, buffer: &mut String, out: &mut K) -> Result<(), 
     put_line(format_args!("clock {now}\n"), buffer, out)
 }
 
-/// Writes how main ended, which stands so.
+/// Writes how the run ended: how many fibers are suspended, or where none is, how main ended, which
+/// stands so.
 fn put_end<K: Sink>(
+    main: Option<FiberState>,
+    suspended: usize,
+    buffer: &mut String,
+    out: &mut K,
+) -> Result<(), ReportRefusal>
+    ensures { Puts (K.taken out.old) (K.taken out.new) (K.fault_count out.old) (K.fault_count out.new)
+        (run_line main suspended) result }
+{
+    if suspended == 0 {
+        return put_main_end(main, buffer, out);
+    }
+    put_line(format_args!("run stuck {suspended}\n"), buffer, out)
+}
+
+/// Writes how main ended, which stands so.
+fn put_main_end<K: Sink>(
     main: Option<FiberState>,
     buffer: &mut String,
     out: &mut K,
 ) -> Result<(), ReportRefusal>
     ensures { Puts (K.taken out.old) (K.taken out.new) (K.fault_count out.old) (K.fault_count out.new)
-        (run_line main) result }
+        (main_line main) result }
 {
     match main {
         Some(FiberState::Ended(Outcome::Cancelled(code))) => {

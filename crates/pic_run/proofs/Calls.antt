@@ -1,5 +1,5 @@
 -- From what a call had to write, and how its writing ended, to each promise of the top calls.
-use Rattle.std.proofs.Common.{◌≡◌, ◌≢◌, ℕ, Bool, ◌<◌, ◌≤◌, ◌⊎◌, inl, inr, Some, None, List, length, Result, Ok, Err, refl, sym, ap, subst, ◌∙◌, arith}
+use Rattle.std.proofs.Common.{◌≡◌, ℕ, Bool, ◌<◌, ◌≤◌, ◌⊎◌, inl, inr, Some, None, List, length, Result, Ok, Err, refl, sym, ap, subst, ◌∙◌, arith}
 use Rattle.std.specs.Arc.{arc_value}
 use Rattle.std.proofs.lemmas.Bool.{false≢true}
 use Rattle.std.specs.Io.KnownBytes.{Appends}
@@ -22,13 +22,13 @@ use Rattle.pic_report.specs.View.{view_text}
 use Rattle.pic_run.specs.declared.answer.Answer.{Answer}
 use Rattle.pic_run.specs.declared.report.Report.{Report}
 use Rattle.pic_run.specs.declared.status.Status.{Status}
-use Rattle.pic_run.specs.declared.status.Status.TheVariants.{Done, Raised, Refused, ReadFault, WriteFault, OutOfMemory, TooLarge, Usage}
+use Rattle.pic_run.specs.declared.status.Status.TheVariants.{Done, Raised, Stuck, Refused, ReadFault, WriteFault, OutOfMemory, TooLarge, Usage}
 use Rattle.pic_run.specs.Limits.{most_bytes}
 use Rattle.pic_run.specs.Run.{origin}
 use Rattle.pic_run.specs.Over.{IsReportOf}
 use Rattle.pic_run.specs.Request.{Command, run, script_of, request}
 use Rattle.pic_run.specs.Refusal.{Accepts, IsRefused, no_script, not_served, IsServed, refusal_text}
-use Rattle.pic_run.specs.Status.{IsStatusOf}
+use Rattle.pic_run.specs.Status.{IsOfRun, IsStatusOf}
 use Rattle.pic_run.specs.Due.{Asked, Answers, refused, ran, checked, shown, Due, usage, read_fault, too_large, answer}
 use Rattle.pic_run.specs.Answer.{Tells, answer_text, answer_status, ended_status}
 use Rattle.pic_run.specs.Headline.{Headline}
@@ -50,15 +50,12 @@ answers_told bytes command r made cause tells =
 pub denied : (bytes : List ℕ) (e : ParseRefusal) (r : Refusal) → Denies e (grammar bytes) → e ≡ parse_refusal.Refused r → grammar bytes ≡ Err r
 denied bytes e r denies is = subst (λ (d : ParseRefusal). Denies d (grammar bytes)) is denies
 
--- a run ends as main ended
-run_status : (w : State) (status : Status) → IsStatusOf w status → (status ≡ Done) ⊎ (status ≡ Raised)
-run_status w Done ended = inl refl
-run_status w Raised ended = inr refl
+-- a run has the status of one
+run_status : (w : State) (status : Status) → IsStatusOf w status → IsOfRun status
+run_status w Done ended = tt
+run_status w Raised ended = tt
+run_status w Stuck ended = tt
 run_status w _ ended = absurd ended
-
-ran_other : {status : Status} {A : Type 0} → (status ≡ Done) ⊎ (status ≡ Raised) → (status ≢ Done) → (status ≢ Raised) → A
-ran_other (inl done) not_done not_raised = absurd (not_done done)
-ran_other (inr raised) not_done not_raised = absurd (not_raised raised)
 
 -- what is refused is not served
 same_tree : (bytes : List ℕ) (a b : Tree) → grammar bytes ≡ Ok a → grammar bytes ≡ Ok b → a ≡ b
@@ -85,7 +82,7 @@ answers_refused (shown tree reads again) none = absurd (none (record { tree = tr
 
 -- no answer is a fault of the sink
 run_written : (w : State) (status : Status) → IsStatusOf w status → status ≡ WriteFault → ⊥
-run_written w status ended is = ran_other (run_status w status ended) (λ d. cc) (λ d. cc)
+run_written w status ended is = subst IsOfRun is (run_status w status ended)
 
 answers_written : {bytes text : List ℕ} {command : Command} {status : Status} → Answers bytes command text status → status ≡ WriteFault → ⊥
 answers_written (ran {status = status} tree history reads accepts is_run ended) is = run_written (world (origin tree) history) status ended is
@@ -103,7 +100,7 @@ serves_put D o text good (Err refusal.Memory) due puts = memory (inr (record { t
 
 headline_of : {bytes text script input : List ℕ} {traced logged : Bool} {status : Status} (held : Held) (o : Output) → Answers bytes (run script input traced logged) text status → Gives held bytes → Appends o.before o.now text → (status ≡ Done) ⊎ (status ≡ Raised)
     → Headline held traced logged o.before o.now status
-headline_of held o (refused r cause) given appends is = ran_other is (λ d. cc) (λ d. cc)
+headline_of held o (refused r cause) given appends is = absurd is
 headline_of {bytes} held o (ran tree history reads accepts is_run ended) given appends is = record {
   bytes = bytes;
   given = given;
@@ -120,11 +117,11 @@ headline_of {bytes} held o (ran tree history reads accepts is_run ended) given a
 }
 
 module _ {NoMore : Type 0} (bytes : List ℕ) (command : Command) (o : Output) where
-  pub script_headline : {status : Status} → Promise (Answers bytes command) NoMore o status → (status ≡ Done) ⊎ (status ≡ Raised) → (script input : List ℕ) (traced logged : Bool) → command ≡ run script input traced logged
+  pub script_headline : {status : Status} → Promise (Answers bytes command) NoMore o status → IsOfRun status → (script input : List ℕ) (traced logged : Bool) → command ≡ run script input traced logged
       → Headline (holds bytes) traced logged o.before o.now status
   script_headline (whole {text} {status} answers appends) is script input traced logged same =
       headline_of (holds bytes) o (subst (λ (c : Command). Answers bytes c text status) same answers) refl appends is
-  script_headline _ is script input traced logged same = ran_other is (λ d. cc) (λ d. cc)
+  script_headline _ is script input traced logged same = absurd is
 
   accepted : {status : Status} → Promise (Answers bytes command) NoMore o status → (Rose o.faults o.faults_now → ⊥) → IsServed command bytes → EndsWell command status ⊎ (status ≡ OutOfMemory)
   accepted (whole answers appends) sound served = inl (answers_well answers served)
@@ -167,11 +164,11 @@ module _ (asked : Asked) (o : Output) where
   serves_given asks given within (fault rose more) = fault rose (took_given asks given within more)
   serves_given asks given within (memory more) = memory (took_given asks given within more)
 
-  pub headline : {NoMore : Type 0} {status : Status} → Promise (Due asked) NoMore o status → (status ≡ Done) ⊎ (status ≡ Raised) → (script input : List ℕ) (traced logged : Bool) → request asked.words ≡ Some (run script input traced logged)
+  pub headline : {NoMore : Type 0} {status : Status} → Promise (Due asked) NoMore o status → IsOfRun status → (script input : List ℕ) (traced logged : Bool) → request asked.words ≡ Some (run script input traced logged)
       → Headline (asked.held script) traced logged o.before o.now status
   headline (whole (answer {bytes = bytes} {text} {status} asks' given within answers) appends) is script input traced logged asks =
       headline_of (asked.held script) o (subst (λ (c : Command). Answers bytes c text status) (same_command asks' asks) answers) (subst (λ (h : Held). Gives h bytes) (held_for asks' asks) given) appends is
-  headline _ is script input traced logged asks = ran_other is (λ d. cc) (λ d. cc)
+  headline _ is script input traced logged asks = absurd is
 
   no_request : {NoMore : Type 0} {status : Status} → Promise (Due asked) NoMore o status → request asked.words ≡ None → (status ≡ Usage) ⊎ GaveUp status
   no_request (whole (usage none) appends) absent = inl refl

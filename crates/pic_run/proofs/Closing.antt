@@ -1,16 +1,16 @@
 -- From what is left of the port, once a run is over, to what is told of the run.
-use Rattle.std.proofs.Common.{◌≡◌, ◌≢◌, ℕ, zero, suc, ◌+◌, ◌<◌, ◌≤◌, ◌⊎◌, inl, inr, Bool, true, false, Option, Some, None, List, [], ◌∷◌, length, slice_get, get_or, refl, sym, ap, subst, ◌∙◌, arith}
+use Rattle.std.proofs.Common.{◌≡◌, ◌≢◌, ℕ, zero, suc, ◌+◌, ◌-◌, ◌<◌, ◌≤◌, ◌⊎◌, inl, inr, Bool, true, false, Option, Some, None, List, [], ◌∷◌, length, slice_get, get_or, refl, sym, ap, subst, ◌∙◌, arith}
 use Rattle.std.specs.Prelude.{All}
 use Rattle.std.specs.Bool.{then_some}
-use Rattle.std.proofs.lemmas.Option.{slice_get_cases}
+use Rattle.std.proofs.lemmas.Option.{slice_get-get_or, slice_get_cases}
 use Rattle.pic_base.specs.declared.outcome.Outcome.TheVariants.{Returned, Cancelled}
 use Rattle.pic_machine.specs.declared.birth.Birth.{Birth}
 use Rattle.pic_machine.specs.declared.closed.Closed.{Closed}
 use Rattle.pic_machine.specs.Happened.{Happened}
 use Rattle.pic_machine.specs.declared.state.FiberState.{FiberState}
-use Rattle.pic_machine.specs.declared.state.FiberState.TheVariants.{Live, Ended}
+use Rattle.pic_machine.specs.declared.state.FiberState.TheVariants.{Live, Suspended, Ended}
 use Rattle.pic_machine.specs.State.{State}
-use Rattle.pic_machine.specs.Final.{IsFinal}
+use Rattle.pic_machine.specs.Final.{IsAtRest, IsFinal}
 use Rattle.pic_machine.specs.History.{Origin, IsLegal, birth_in, world}
 use Rattle.pic_machine.specs.Log.{entries, log}
 use Rattle.pic_machine.specs.Closing.{IsLeft}
@@ -25,34 +25,62 @@ use Rattle.fiber_body.specs.Fits.{Fits, MayBeOf}
 use Rattle.pic_run.specs.declared.report.Report.{Report}
 use Rattle.pic_run.specs.Run.{IsRunOf, origin}
 use Rattle.pic_run.specs.Over.{IsOver, IsReportOf}
-use Rattle.pic_report.specs.declared.view.FiberView.{FiberView}
-use Rattle.pic_report.specs.Report.{report}
-use Rattle.pic_report.specs.View.{IsFiberView, IsLeftOf, IsTraceOf, IsViewOf, main_state, view_text}
+use Rattle.pic_report.specs.Report.{report, suspended_count}
+use Rattle.pic_report.specs.View.{IsLeftOf, IsTraceOf, IsViewOf, main_state, states_of, view_text}
+use Rattle.pic_report.proofs.Reports.{states_viewed}
 use Rattle.std.specs.Arc.{arc_value}
-use Rattle.pic_run.specs.Status.{IsStatusOf, status_of}
+use Rattle.pic_run.specs.Status.{IsStatusOf, IsStuck, main_status, status_of}
 
 -- ---- the status
 
-status_at : (w : State) (fibers : List FiberState) → w.fibers ≡ fibers → All (λ fiber. fiber ≢ Live) fibers → 0 < length fibers → IsStatusOf w (status_of (slice_get fibers 0))
-status_at w [] is ended main = absurd (omega arith)
-status_at w (Live ∷ fibers) is ended main = absurd (ended 0 Live (omega arith) refl)
-status_at w (Ended (Returned value) ∷ fibers) is ended main = record { value = value; main = ap (λ (fs : List FiberState). slice_get fs 0) is }
-status_at w (Ended (Cancelled code) ∷ fibers) is ended main = record { code = code; main = ap (λ (fs : List FiberState). slice_get fs 0) is }
+-- where none is counted, none is suspended
+none_counted : (states : List FiberState) (place t : ℕ) → suspended_count states ≡ 0 → slice_get states place ≡ Some (Suspended t) → ⊥
+none_counted [] place t none is = cc
+none_counted (Suspended u ∷ states) zero t none is = absurd (omega (arith, none))
+none_counted (Live ∷ states) zero t none is = cc
+none_counted (Ended o ∷ states) zero t none is = cc
+none_counted (state ∷ states) (suc place) t none is = none_counted states place t (omega (arith, none)) is
+
+-- where some are, one of them is
+record IsCounted (states : List FiberState) : Type 0 where
+  place : ℕ
+  trigger : ℕ
+  is : slice_get states place ≡ Some (Suspended trigger)
+
+one_behind : (state : FiberState) (states : List FiberState) → IsCounted states → IsCounted (state ∷ states)
+one_behind state states counted = record { place = suc counted.place; trigger = counted.trigger; is = counted.is }
+
+one_counted : (states : List FiberState) → 0 < suspended_count states → IsCounted states
+one_counted [] some = absurd (omega (arith, some))
+one_counted (Suspended t ∷ states) some = record { place = 0; trigger = t; is = refl }
+one_counted (Live ∷ states) some = one_behind Live states (one_counted states some)
+one_counted (Ended o ∷ states) some = one_behind (Ended o) states (one_counted states some)
+
+module _ (w : State) (rest : All (IsAtRest w.triggers) w.fibers) (made : 0 < length w.fibers) where
+  none_waits : suspended_count w.fibers ≡ 0 → IsStuck w → ⊥
+  none_waits none stuck = none_counted w.fibers (stuck.fiber - 1) stuck.trigger none stuck.waits.state
+
+  main_at : (none : IsStuck w → ⊥) (main : FiberState) → slice_get w.fibers 0 ≡ Some main → IsAtRest w.triggers main → IsStatusOf w (main_status (Some main))
+  main_at none Live is rests = absurd rests
+  main_at none (Suspended t) is rests = absurd (none (record { fiber = 1; trigger = t; waits = record { made = omega arith; state = is } }))
+  main_at none (Ended (Returned value)) is rests = record { none = none; value = value; main = is }
+  main_at none (Ended (Cancelled code)) is rests = record { none = none; code = code; main = is }
+
+  by_count : (count : ℕ) → suspended_count w.fibers ≡ count → IsStatusOf w (status_of (slice_get w.fibers 0) count)
+  by_count zero none =
+      let there = slice_get-get_or w.fibers 0 Live made in
+      subst (λ (main : Option FiberState). IsStatusOf w (main_status main)) (sym there) (main_at (none_waits none) (get_or w.fibers 0 Live) there (rest 0 Live made))
+  by_count (suc others) some =
+      let one = one_counted w.fibers (omega (arith, some)) in
+      let here : suc one.place - 1 ≡ one.place = omega arith in
+      record { fiber = suc one.place; trigger = one.trigger; waits = record { made = omega arith; state = ap (slice_get w.fibers) here ∙ one.is } }
 
 -- main was made, whatever happened
 main_made : (script : Tree) (hs : List Happened) → 0 < length (world (origin script) hs).fibers
 main_made script hs = fibers_grow (origin script).world hs
 
-status_is : (script : Tree) (hs : List Happened) → IsFinal (world (origin script) hs) → IsStatusOf (world (origin script) hs) (status_of (slice_get (world (origin script) hs).fibers 0))
-status_is script hs final = status_at (world (origin script) hs) (world (origin script) hs).fibers refl final.ended (main_made script hs)
-
--- main stands as its view says
-main_seen : {origin : Origin} {hs : List Happened} (views : List FiberView) (states : List FiberState) → length views ≡ length states
-    → ((place : ℕ) (state : FiberState) (seen : FiberView) → slice_get states place ≡ Some state → slice_get views place ≡ Some seen → IsFiberView origin hs (place + 1) state seen) → main_state views ≡ slice_get states 0
-main_seen [] [] count are = refl
-main_seen [] (state ∷ states) count are = absurd (omega (arith, count))
-main_seen (view ∷ views) [] count are = absurd (omega (arith, count))
-main_seen (view ∷ views) (state ∷ states) count are = ap Some (are 0 state view refl refl).state_is
+status_is : (script : Tree) (hs : List Happened) → IsFinal (world (origin script) hs) → IsStatusOf (world (origin script) hs) (status_of (slice_get (world (origin script) hs).fibers 0) (suspended_count (world (origin script) hs).fibers))
+status_is script hs final = let w = world (origin script) hs in by_count w final.rest (main_made script hs) (suspended_count w.fibers) refl
 
 -- ---- the trace
 
@@ -113,9 +141,12 @@ module _ (script : Tree) (port : Port Body) (closed : Closed Body) (over : IsOve
 
   -- the report of a view of that
   pub report_left : (traced logged : Bool) (made : Report) → arc_value made.program ≡ script → IsViewOf (origin script) port.front traced logged made.view
-      → view_text script made.view ≡ report script (origin script) port.front traced logged → made.status ≡ status_of (main_state made.view.fibers.items) → IsReportOf script port.front traced logged made
+      → view_text script made.view ≡ report script (origin script) port.front traced logged → made.status ≡ status_of (main_state made.view.fibers.items) (suspended_count (states_of made.view.fibers.items)) → IsReportOf script port.front traced logged made
   report_left traced logged made program view text status = record {
     run = run_left;
     text = ap (λ (t : Tree). view_text t made.view) program ∙ text;
-    status = subst (IsStatusOf (world (origin script) port.front)) (sym (status ∙ ap status_of (main_seen made.view.fibers.items (world (origin script) port.front).fibers view.count view.fiber))) (status_is script port.front run_left.final);
+    status =
+        let w = world (origin script) port.front in
+        let seen : states_of made.view.fibers.items ≡ w.fibers = states_viewed (origin script) port.front traced logged made.view view in
+        subst (IsStatusOf w) (sym (status ∙ ap (λ (states : List FiberState). status_of (slice_get states 0) (suspended_count states)) seen)) (status_is script port.front run_left.final);
   }

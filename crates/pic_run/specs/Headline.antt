@@ -1,5 +1,5 @@
--- The headline: what a call that answers Done or Raised to a run says of the script, the history and
--- the report.
+-- The headline: what a call that answers Done, Raised or Stuck to a run says of the script, the history
+-- and the report.
 use Rattle.std.specs.Prelude.{◌≡◌, ℕ, Bool, IsTrue, Option, Some, Ok, List}
 use Rattle.std.specs.Io.KnownBytes.{Appends}
 use Rattle.pic_io.specs.Held.{Held, Gives}
@@ -31,11 +31,11 @@ pub record Headline (held : Held) (traced logged : Bool) (before now : Option (L
   -- each fiber's calls stand in it once, in its text's order, with the replies that it got
   pub follows : (f : ℕ) (birth : Birth) → birth_in (origin script) history f ≡ Some birth
       → FollowsText script f birth (log history f)
-  -- it ends with every fiber ended
+  -- it ends with nothing owed, and every fiber ended or suspended at a trigger that isn't signalled
   pub final : IsFinal (world (origin script) history)
   -- the sink took exactly its report, with the trace and the logs where they were asked for
   pub written : Appends before now (report script (origin script) history traced logged)
-  -- the status is how main ended
+  -- the status is how the fibers ended
   pub ended : IsStatusOf (world (origin script) history) status
   -- its turns stand in the FIFO order
   pub ordered : IsInFifoOrder history

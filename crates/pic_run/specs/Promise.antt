@@ -9,11 +9,12 @@ use Rattle.pic_io.specs.Faults.{Rose}
 use Rattle.pic_io.specs.Held.{missing, holds}
 use Rattle.pic_report.specs.Output.{AppendsFront}
 use Rattle.pic_run.specs.declared.status.Status.{Status}
-use Rattle.pic_run.specs.declared.status.Status.TheVariants.{Done, Raised, Usage, Refused, ReadFault, WriteFault, OutOfMemory, TooLarge}
+use Rattle.pic_run.specs.declared.status.Status.TheVariants.{Done, Usage, Refused, ReadFault, WriteFault, OutOfMemory, TooLarge}
 use Rattle.pic_run.specs.Due.{Asked}
 use Rattle.pic_run.specs.Limits.{most_bytes}
 use Rattle.pic_run.specs.Refusal.{IsServed}
 use Rattle.pic_run.specs.Request.{Command, run, check, show, script_of, request}
+use Rattle.pic_run.specs.Status.{IsOfRun}
 
 -- what a sink told before a call and after it: the bytes that it had taken, and the count of its faults
 pub record Output : Type 0 where
@@ -77,9 +78,9 @@ finished_status (Err sink.Memory) called = OutOfMemory
 
 -- ---- which answers come
 
--- the statuses of a call that did what the command asks for: a run ends as main ended
+-- the statuses of a call that did what the command asks for
 abbrev pub EndsWell : Command → Status → Type 0
-EndsWell (run script input traced logged) status = (status ≡ Done) ⊎ (status ≡ Raised)
+EndsWell (run script input traced logged) status = IsOfRun status
 EndsWell (check script) status = status ≡ Done
 EndsWell (show script) status = status ≡ Done
 

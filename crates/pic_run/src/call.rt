@@ -4,6 +4,7 @@ ghost use Rattle.pic_run.specs.Due.{Due, asked_of};
 ghost use Rattle.pic_run.specs.Headline.{Headline};
 ghost use Rattle.pic_run.specs.Promise.{Owed, ReadsOnce, Serves, output_of};
 ghost use Rattle.pic_run.specs.Request.{command_of, request as asked_for, run, script_of};
+ghost use Rattle.pic_run.specs.Status.{IsOfRun};
 
 use crate::limits::MOST_BYTES;
 use crate::request::{Request, RequestRefusal, request_of};
@@ -30,8 +31,7 @@ pub fn run_one_call<F: Files, K: Sink>(
         (output_of K.taken K.fault_count out.old out.new) result }
 
     // A run: one legal history of the machine, and its report.
-    ensures headline { (result ≡ Status.Done) ⊎ (result ≡ Status.Raised)
-        → (script input : List ℕ) (traced logged : Bool)
+    ensures headline { IsOfRun result → (script input : List ℕ) (traced logged : Bool)
         → asked_for (map string_bytes words.now) ≡ Some (run script input traced logged)
         → Headline (F.held files.old script) traced logged
         (K.taken out.old) (K.taken out.new) result }

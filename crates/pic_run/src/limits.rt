@@ -3,6 +3,8 @@ use pic_base::Limits;
 /// The limits of the machine that scripts run on.
 pub const LIMITS: Limits = Limits {
     fibers: 128,
+    triggers: 262_144,
+    places: 262_144,
     comps: 65_536,
 };
 

@@ -2,7 +2,7 @@
 ghost use Rattle.std.specs.Prelude.{◌≡◌, IfOk};
 ghost use Rattle.std.specs.Arc.{arc_value};
 ghost use Rattle.pic_run.specs.Over.{IsOver, IsReportOf};
-ghost use Rattle.pic_run.specs.Status.{status_of};
+ghost use Rattle.pic_run.specs.Status.{main_status, status_of};
 
 use crate::status::Status;
 use fiber_body::Body;
@@ -14,7 +14,7 @@ use script_tree::Program;
 use std::alloc::Global;
 use std::sync::Arc;
 
-/// What a report of a run of the program is made from, and the status that tells how main ended.
+/// What a report of a run of the program is made from, and the status of the run.
 #[derive(Drop)]
 pub(crate) struct Report {
     pub(crate) program: Arc<Program>,
@@ -39,7 +39,7 @@ pub(crate) fn report_of(
     };
     let trace = trace.then_some(history);
     let view = view_of(alloc, closed, trace, log)?;
-    let status = status_of(view.main_state());
+    let status = status_of(view.main_state(), view.suspended_count());
     Ok(Report {
         program,
         view,
@@ -47,9 +47,20 @@ pub(crate) fn report_of(
     })
 }
 
-/// The status that tells how main ended, which stands so.
-fn status_of(main: Option<FiberState>) -> Status
-    ensures { result ≡ status_of main }
+/// The status of a run, by how main stands and how many fibers are suspended.
+fn status_of(main: Option<FiberState>, suspended: usize) -> Status
+    ensures { result ≡ status_of main suspended }
+{
+    if suspended == 0 {
+        main_status(main)
+    } else {
+        Status::Stuck
+    }
+}
+
+/// The status of a run in which no fiber is suspended, by how main stands.
+fn main_status(main: Option<FiberState>) -> Status
+    ensures { result ≡ main_status main }
 {
     match main {
         Some(FiberState::Ended(Outcome::Cancelled(_))) => Status::Raised,

@@ -1,11 +1,12 @@
 //! The answer to a request on the bytes of a script.
-ghost use Rattle.std.specs.Prelude.{◌≡◌, ◌≤◌, ◌⊎◌, ℕ, Bool, List, length};
+ghost use Rattle.std.specs.Prelude.{◌≡◌, ◌≤◌, ℕ, Bool, List, length};
 ghost use Rattle.pic_io.specs.Held.{holds};
 ghost use Rattle.pic_run.specs.Answer.{ended_status};
 ghost use Rattle.pic_run.specs.Due.{Answers};
 ghost use Rattle.pic_run.specs.Headline.{Headline};
 ghost use Rattle.pic_run.specs.Promise.{OwedOn, Serves, output_of};
 ghost use Rattle.pic_run.specs.Request.{command_of, run};
+ghost use Rattle.pic_run.specs.Status.{IsOfRun};
 
 use crate::answer::{Answer, answer_of_text};
 use crate::request::Request;
@@ -30,8 +31,7 @@ pub fn answer_script<K: Sink>(
         (output_of K.taken K.fault_count out.old out.new) result }
 
     // A run: one legal history of the machine, and its report.
-    ensures headline { (result ≡ Status.Done) ⊎ (result ≡ Status.Raised)
-        → (name input : List ℕ) (traced logged : Bool)
+    ensures headline { IsOfRun result → (name input : List ℕ) (traced logged : Bool)
         → command_of request.now ≡ run name input traced logged
         → Headline (holds script.now) traced logged (K.taken out.old) (K.taken out.new) result }
 

@@ -4,11 +4,12 @@ ghost use Rattle.pic_run.specs.Status.{status_number};
 /// How a call of the program ended.
 #[derive(Clone, Copy, Debug, PartialEq, Eq)]
 pub enum Status {
-    /// What was asked for was done; of a run: its world is final, so no fiber is suspended, and main
-    /// returned.
+    /// What was asked for was done; of a run: its world is final, no fiber is suspended, and main returned.
     Done,
-    /// A run: its world is final, so no fiber is suspended, and main was cancelled.
+    /// A run: its world is final, no fiber is suspended, and main was cancelled.
     Raised,
+    /// A run: its world is final, and a fiber is suspended.
+    Stuck,
     /// The words are no request.
     Usage,
     /// The script is outside the grammar.
@@ -31,6 +32,7 @@ impl Status {
         match self {
             Status::Done => 0,
             Status::Raised => 1,
+            Status::Stuck => 2,
             Status::Usage => 3,
             Status::Refused => 4,
             Status::ReadFault => 5,

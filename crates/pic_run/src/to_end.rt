@@ -1,10 +1,11 @@
 //! The top call with a sink that its text is gathered for.
-ghost use Rattle.std.specs.Prelude.{◌≡◌, ◌≤◌, ◌⊎◌, ℕ, Bool, List, Some, None, map, string_bytes};
+ghost use Rattle.std.specs.Prelude.{◌≡◌, ◌≤◌, ℕ, Bool, List, Some, None, map, string_bytes};
 ghost use Rattle.std.specs.Io.KnownBytes.{append_known};
 ghost use Rattle.pic_run.specs.Due.{Due, asked_of};
 ghost use Rattle.pic_run.specs.Headline.{Headline};
 ghost use Rattle.pic_run.specs.Promise.{GaveUp, Owed, ReadsOnce, ServesAtMost, finished_status, inner_output};
 ghost use Rattle.pic_run.specs.Request.{request as asked_for, run};
+ghost use Rattle.pic_run.specs.Status.{IsOfRun};
 
 use crate::call::run_one_call;
 use crate::status::Status;
@@ -27,8 +28,7 @@ pub fn run_to_end<F: Files, S: Sink>(
         (inner_output S.taken S.fault_count out.old out.new) result }
 
     // A run: one legal history of the machine, and its report.
-    ensures headline { (result ≡ Status.Done) ⊎ (result ≡ Status.Raised)
-        → (script input : List ℕ) (traced logged : Bool)
+    ensures headline { IsOfRun result → (script input : List ℕ) (traced logged : Bool)
         → asked_for (map string_bytes words.now) ≡ Some (run script input traced logged)
         → Headline (F.held files.old script) traced logged
         (append_known (S.taken out.old.inner) out.old.gathered.items)

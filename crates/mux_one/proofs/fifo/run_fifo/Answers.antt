@@ -9,12 +9,12 @@ loop-fiber-init g c = record {
   share = refl;
   polls_it = c.requires.polls;
   whole = c.in_ok-line.ensures.lost;
-  under_way = rw c.in_ok-line.ensures.queue (at_start refl c.world.ensures.start.main c.requires.fresh c.requires.out);
+  under_way = rw c.in_ok-line.ensures.queue (at_start c.args.port.start refl c.world.ensures.start c.requires.fresh c.requires.out);
 }
 
 pub loop-fiber-smaller : goal.loop-fiber-smaller
 loop-fiber-smaller g c =
-    fewer_left _ (ap (λ (o : Origin). o.world.limits.fibers) (c.in_ok-run_turn.ensures.origin ∙ c.loop-fiber.invariant.origin)) c.in_ok-run_turn.ensures.under_way c.in_ok-run_turn.ensures.further
+    fewer_left _ (ap (λ (o : Origin). o.world.limits) (c.in_ok-run_turn.ensures.origin ∙ c.loop-fiber.invariant.origin)) c.in_ok-run_turn.ensures.under_way c.in_ok-run_turn.ensures.further
 
 pub loop-fiber-preserved : goal.loop-fiber-preserved
 loop-fiber-preserved g c = record {

@@ -10,7 +10,7 @@ fork-requires-clause-child g c =
     let born = c.new-child.ensures.birth in
     record {
       unnumbered = c.new-child.ensures.number;
-      owes = refl;
+      owes = c.new-child.ensures.owed;
       same_text = rw born refl;
       same_value = rw born refl;
       stands = rw (born, comps_stay p.origin p.front) c.requires.comps;

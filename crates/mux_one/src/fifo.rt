@@ -18,7 +18,7 @@ use std::alloc::Global;
 
 /// Runs the fibers until each one has ended, or waits for a trigger that nobody is left to signal: each
 /// turn is that of the fiber which has been ready longest. The port is as its `open` gave it.
-pub fn run_fifo<B: Carried + Send, Q: Poller<PlainPort<B>>>(
+pub fn run_fifo<B: Carried, Q: Poller<PlainPort<B>>>(
     alloc: Global,
     poller: &Q,
     port: PlainPort<B>,
@@ -44,7 +44,7 @@ pub fn run_fifo<B: Carried + Send, Q: Poller<PlainPort<B>>>(
 }
 
 /// Runs the next turn of a fiber that was first of the line.
-fn run_turn<B: Carried + Send, Q: Poller<PlainPort<B>>>(
+fn run_turn<B: Carried, Q: Poller<PlainPort<B>>>(
     poller: &Q,
     port: &mut PlainPort<B>,
     line: &mut Line,
@@ -68,7 +68,7 @@ fn run_turn<B: Carried + Send, Q: Poller<PlainPort<B>>>(
 }
 
 /// Begins a turn of a live fiber.
-fn claim<B: Carried + Send>(port: &mut PlainPort<B>, fiber: FiberNo) -> Result<B, Memory>
+fn claim<B: Carried>(port: &mut PlainPort<B>, fiber: FiberNo) -> Result<B, Memory>
     requires out { port.old.out ≡ None }
     requires range { (1 ≤ fiber) × (fiber ≤ port.old.start.limits.fibers) }
     requires live { IsLive (world (origin_in B.seen port.old) port.old.front) fiber }
@@ -87,7 +87,7 @@ fn claim<B: Carried + Send>(port: &mut PlainPort<B>, fiber: FiberNo) -> Result<B
 }
 
 /// Polls a body whose turn has begun, until the turn is over.
-fn poll<B: Carried + Send, Q: Poller<PlainPort<B>>>(
+fn poll<B: Carried, Q: Poller<PlainPort<B>>>(
     poller: &Q,
     port: &mut PlainPort<B>,
     line: &mut Line,
@@ -111,7 +111,7 @@ fn poll<B: Carried + Send, Q: Poller<PlainPort<B>>>(
 }
 
 /// The port, which says that all is over.
-fn finish<B: Carried + Send>(port: PlainPort<B>) -> Result<PlainPort<B>, Memory>
+fn finish<B: Carried>(port: PlainPort<B>) -> Result<PlainPort<B>, Memory>
     requires under_way { IsUnderWay (sight_of B.seen port) [] }
     ensures origin { IfOk result (λ done. origin_in B.seen done ≡ origin_in B.seen port) }
     ensures share { IfOk result (λ done. (B.seen done.main).share ≡ (B.seen port.main).share) }

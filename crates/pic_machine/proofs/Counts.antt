@@ -1,5 +1,5 @@
 -- Each fiber has a list of duties, and the clock has one: so it stays, and each call finds its caller's.
-use Rattle.std.proofs.Common.{◌≡◌, ℕ, ◌+◌, ◌<◌, Bool, true, false, List, [], ◌∷◌, ◌++◌, length, slice_get, ap, sym, ◌∙◌, arith}
+use Rattle.std.proofs.Common.{◌≡◌, ℕ, ◌+◌, ◌<◌, Bool, true, false, List, [], ◌∷◌, ◌++◌, length, slice_get, ap, ◌∙◌, arith}
 use Rattle.std.proofs.lemmas.List.{length-append, length-set}
 use Rattle.pic_base.specs.declared.duty.Duty.{Duty}
 use Rattle.pic_machine.specs.declared.entry.Call.{Call}
@@ -10,7 +10,7 @@ use Rattle.pic_machine.specs.declared.state.FiberState.TheVariants.{Live}
 use Rattle.pic_machine.specs.Happened.{Happened}
 use Rattle.pic_machine.specs.State.{IsStart, State, owed_of}
 use Rattle.pic_machine.specs.Duty.{fulfilled, followed}
-use Rattle.pic_machine.specs.Step.{after, fibers_after, grown, has_room, owed_after, with_signals}
+use Rattle.pic_machine.specs.Step.{after, grown, has_room, with_signals}
 use Rattle.pic_machine.specs.History.{Follows, Origin, world, world_from}
 use Rattle.pic_machine.proofs.Callers.{caller_owes}
 use Rattle.pic_machine.proofs.Histories.{world-push}

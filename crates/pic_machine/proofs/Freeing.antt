@@ -22,14 +22,14 @@ module _ {S : Type 0} (p q : Sight S) (a b : Carry S) (h : Happened) where
       let assoc : (p.front ++ others) ++ h ∷ [] ≡ p.front ++ (others ++ h ∷ []) = append_assoc p.front others (h ∷ []) in
       let front : q.front ≡ (p.front ++ others) ++ h ∷ [] = lent.made.later.front ∙ sym assoc in
       let legal : IsLegal p.origin ((p.front ++ others) ++ h ∷ []) =
-          subst (λ (o : Origin). IsLegal o ((p.front ++ others) ++ h ∷ [])) lent.made.later.origin (subst (IsLegal q.origin) front lent.made.legal) in
+      subst (λ (o : Origin). IsLegal o ((p.front ++ others) ++ h ∷ [])) lent.made.later.origin (subst (IsLegal q.origin) front lent.made.legal) in
       let before : List Happened = p.front ++ others in
       let apart = subst (λ (n : ℕ). Others n others) mine lent.made.not_mine in
       let none : owed_of (world p.origin before) f ≡ [] =
-          owed_stays p.origin p.front others f (IsLegal-front p.origin before (h ∷ []) legal) apart ∙ (sym holds.owes ∙ free) in
+      owed_stays p.origin p.front others f (IsLegal-front p.origin before (h ∷ []) legal) apart ∙ (sym holds.owes ∙ free) in
       let now : owed_of (world p.origin (before ++ h ∷ [])) f ≡ [] =
-          ap (λ (w : State). owed_of w f) (world-push p.origin before h)
-          ∙ subst (λ (n : ℕ). owed_of (after (world p.origin before) n h.entry.call) f ≡ []) (sym mine) (free_after (world p.origin before) f h.entry.call brings none) in
+      ap (λ (w : State). owed_of w f) (world-push p.origin before h)
+      ∙ subst (λ (n : ℕ). owed_of (after (world p.origin before) n h.entry.call) f ≡ []) (sym mine) (free_after (world p.origin before) f h.entry.call brings none) in
       let number : fiber_of b ≡ f = ap (λ (n : Option ℕ). fiber_of (record a { number = n })) lent.number in
       lent.holds.owes
       ∙ (ap (λ (n : ℕ). owed_of (world q.origin q.front) n) number

@@ -1,10 +1,10 @@
 -- What a body owes behind a call that it was lent to: what its own call left, since others' calls leave it.
-use Rattle.std.proofs.Common.{◌≡◌, ℕ, Option, Some, None, List, [], ◌∷◌, ◌++◌, map, reverse, refl, sym, ap, subst, ◌∙◌, append_assoc, slice_get}
+use Rattle.std.proofs.Common.{◌≡◌, ℕ, Option, Some, List, [], ◌∷◌, ◌++◌, map, reverse, refl, sym, ap, subst, ◌∙◌, append_assoc, slice_get}
 use Rattle.pic_base.specs.declared.duty.Duty.{Duty}
 use Rattle.pic_base.specs.declared.duty.Duty.TheVariants.{Signal}
 use Rattle.pic_base.specs.declared.outcome.Outcome.{Outcome}
 use Rattle.pic_machine.specs.declared.state.CompState.{CompState}
-use Rattle.pic_machine.specs.declared.state.CompState.TheVariants.{Running, Done}
+use Rattle.pic_machine.specs.declared.state.CompState.TheVariants.{Running}
 use Rattle.pic_machine.specs.declared.entry.Call.{Call}
 use Rattle.pic_machine.specs.declared.entry.Call.TheVariants as call
 use Rattle.pic_machine.specs.declared.entry.Call.TheVariants.{Complete, Peek}

@@ -1,5 +1,5 @@
 -- Which numbers a fiber may use is told by its own log: nobody else takes a place that it made.
-use Rattle.std.proofs.Common.{◌≡◌, ◌⊎◌, ℕ, inl, inr, not, Bool, true, false, List, [], ◌∷◌, ◌++◌, filter, refl, sym, ap, subst, ◌∙◌, append_assoc}
+use Rattle.std.proofs.Common.{◌≡◌, ℕ, inl, inr, not, Bool, true, false, List, [], ◌∷◌, ◌++◌, filter, refl, sym, ap, subst, ◌∙◌, append_assoc}
 use Rattle.std.specs.List.{AllByRecursion}
 use Rattle.pic_machine.specs.declared.entry.Call.{Call}
 use Rattle.pic_machine.specs.declared.entry.Call.TheVariants.{NewTrigger, NewPlace, Arm, Attach}
@@ -107,7 +107,7 @@ own_by_log origin hs f (Arm t action) legal (inr made) = inr (made_kept (λ (h :
 own_by_log origin hs f (Attach p c t) legal fits = (
   made_kept (λ (h : Happened). not (is_due h)) f NewPlace p (log hs f) fits.0,
   unused_kept (λ (h : Happened). not (is_due h)) p (log hs f)
-  (due_takes_none p (log hs f) (each_kept (is_logged f) (λ (h : Happened). IsUnasked h.entry.call → h.owing ≡ false) hs (unasked_unmarked origin hs legal))) fits.1,
+      (due_takes_none p (log hs f) (each_kept (is_logged f) (λ (h : Happened). IsUnasked h.entry.call → h.owing ≡ false) hs (unasked_unmarked origin hs legal))) fits.1,
 )
 own_by_log origin hs f _ legal fits = tt
 

@@ -14,7 +14,7 @@ use Rattle.pic_machine.specs.declared.entry.Reply.TheVariants.{Armed}
 use Rattle.pic_machine.specs.Happened.{Happened}
 use Rattle.pic_machine.specs.State.{State}
 use Rattle.pic_machine.specs.Step.{Allowed, after, armed, grown, reply_of, triggers_after, with_action}
-use Rattle.pic_machine.specs.History.{Origin, IsLegal, world_from}
+use Rattle.pic_machine.specs.History.{Origin, IsLegal, world, world_from}
 use Rattle.pic_machine.specs.Order.{stops, turns_over}
 use Rattle.pic_machine.proofs.Fates.{AreSteps, steps}
 use Rattle.pic_machine.proofs.Lists.{nothing_there}
@@ -126,9 +126,12 @@ parks_from w (h ∷ hs) are =
     let here = parks_begin w h.entry.fiber h.entry.call are.0.allowed in
     omega (arith, park, reply, here, parks_from (after w h.entry.fiber h.entry.call) hs are.1)
 
--- fibers wait no more often than there may be triggers
+-- fibers have waited no more often than there are triggers
+pub parks_below : (origin : Origin) (hs : List Happened) → IsLegal origin hs → parks_over hs ≤ length (world origin hs).triggers
+parks_below origin hs legal = omega (arith, parks_from origin.world hs (steps origin hs legal), begun_within (world origin hs).triggers)
+
+-- nor than there may be
 pub few_parks : (origin : Origin) (hs : List Happened) → IsWithin origin.world → IsLegal origin hs → parks_over hs ≤ origin.world.limits.triggers
 few_parks origin hs within legal =
-    let last : List TrigState = (world_from origin.world hs).triggers in
     let limit = ap (λ (limits : Limits). limits.triggers) (world_limits origin.world hs) in
-    omega (arith, parks_from origin.world hs (steps origin hs legal), begun_within last, (world_within origin.world hs within).triggers, limit)
+    omega (arith, parks_below origin hs legal, (world_within origin.world hs within).triggers, limit)

@@ -27,18 +27,18 @@ pub record Lawful (origin : Origin) (hs : List Happened) : Type 0 where
   pub signals : (t : ℕ) → SignalsOnce hs t
   -- a running computation has exactly the triggers that were attached to it, in order
   pub attached : (c : ℕ) (triggers : List ℕ) → slice_get (world origin hs).comps c ≡ Some (Running triggers) → triggers ≡ attachments hs c
-  -- whoever completed a computation signals each of them, the last attached one first, before it does anything
-  -- else but begin turns and look at triggers, and before it owes nothing
+  -- whoever completed a computation signals each trigger that was attached to it, the last one first, before it
+  -- calls anything but turns and looks at triggers, and before it owes nothing
   pub discharged : (front back : List Happened) (won : Happened) (c : ℕ) (o : Outcome) → hs ≡ front ++ won ∷ back → Wins c o won
       → SignalsAll (world origin hs) won.entry.fiber (attachments front c) (calls_of won.entry.fiber back)
-  -- so no attachment is lost: it stands, or its signal is owed, or it is signalled
+  -- so no attachment is lost: it stands, or its signal is owed, or its trigger is signalled
   pub kept : (c t : ℕ) → Contains (attachments hs c) t → IsKept hs (world origin hs) c t
   -- a fiber is suspended at a trigger exactly where the trigger's signal will resume it
   pub tied : IsTied (world origin hs)
-  -- the last that it did was to arm the trigger
+  -- and the last that it did was to arm the trigger
   pub asleep : (f t : ℕ) → IsSuspended (world origin hs) f t → EndsAsleep (log hs f) f t
   -- where no fiber is live all is over
   pub over : All (λ fiber. fiber ≢ Live) (world origin hs).fibers → IsFinal (world origin hs)
-  -- and where all is over nobody may call anything, and each fiber has ended or waits in vain
+  -- and there nobody may call anything, and each fiber has ended or waits for a trigger that isn't signalled
   pub still : IsFinal (world origin hs) → (f : ℕ) (call : Call) → Allowed (world origin hs) f call → ⊥
   pub stopped : IsFinal (world origin hs) → (f : ℕ) → 0 < f → f ≤ length (world origin hs).fibers → HasStopped (world origin hs) f

@@ -6,7 +6,10 @@
 //! part of a world), `Happened` and `History` (legal histories and births), `Log` (what one fiber did, and
 //! what of it was its own), `Completing` (how computations were completed), `Final` (nothing is left to
 //! do, or something is) and `Order` (the turns of one worker, first ready, first run, or by another pick).
-//! `World` is the machine itself: its calls are exactly the definition's start and step.
+//! `Routine` says what a fiber does as a table of calls and replies, and `Waits` has the tables of waiting.
+//! `World` is the machine itself: its calls are exactly the definition's start and step. What holds of every
+//! legal history, whoever acts in it, `Laws` says, in the words of `Once` (what happens once), `Signalling`
+//! (what becomes of attached triggers) and `Suspending` (who waits for what).
 //!
 //! A fiber's body (`Carried`) is moved between a port (`Port`), which has the bodies and makes their
 //! entries in one history, and whoever runs it, a turn at a time (`Poller`). `Sight` defines what
@@ -18,12 +21,14 @@
 //! The laws of `proofs/` are for those who write ports and what runs on them: how a legal history grows
 //! (`Histories`), what a step changes of what its caller owes, and what else it and other fibers leave
 //! standing (`Steps`, `Counts`, `Numbers`, `Staying`), that there is nothing of a fiber that isn't made
-//! (`Fresh`), what a fiber's own log leaves out, and what it keeps (`Owns`), how a port's call keeps the
-//! contract (`Onward`, `Homes`), how turns and the answers of polls are put together and stand in order
+//! (`Fresh`), what a fiber's own log leaves out, and what it keeps (`Owns`), which numbers it may use, as its
+//! log tells (`NumbersByLog`), how a port's call keeps the contract (`Onward`, `Homes`), what a body owes
+//! behind one (`Lendings`, `Freeing`), how turns and the answers of polls are put together and stand in order
 //! (`Turns`, `Polls`), that the ready list has exactly the live fibers (`Readiness`), that where not all is
-//! over somebody is live or owes (`Finals`), how many turns there can be where fibers yield so often
-//! (`Turnings`), and what a log tells of how its fiber and the computations ended (`Ends`, `Fates`,
-//! `Completions`). It stands on `pic_base`.
+//! over somebody is live or owes (`Finals`), and where nobody is live all is over (`Rests`), how many waits
+//! and turns there can be where fibers yield so often (`Parks`, `Turnings`), what a log tells of how its fiber
+//! and the computations ended (`Ends`, `Fates`, `Completions`), that all duties are signals (`Dues`), and that
+//! `Laws` holds (`Lawfully`). It stands on `pic_base`.
 #![tactic(auto)]
 
 mod attached;

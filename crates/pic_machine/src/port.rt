@@ -72,7 +72,7 @@ pub trait ReadyLine {
 pub trait Port: Drop {
     ghost use Rattle.pic_machine.specs.Lending.{Answered, Began, Called, Calm, Faulted, FitsWith, Kept, Laid, Lent, Made, NotClaimed, NotParked, Refuses, RefusesMaking, Spared};
 
-    type Body: Carried + Send;
+    type Body: Carried;
 
     ghost sight: { Self → Sight Self.Body.Share };
 

@@ -9,7 +9,7 @@ use crate::plain::{PlainPort, reply};
 use pic_base::{CompNo, FiberNo, Outcome, Value};
 use pic_machine::{Call, Carried, ClaimRefusal, CompleteReply, Idle, Port, PortFault, Reply};
 
-impl<B: Carried + Send> Port for PlainPort<B> {
+impl<B: Carried> Port for PlainPort<B> {
     type Body = B;
 
     ghost sight = { sight_of B.seen };

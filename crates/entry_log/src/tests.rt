@@ -1,14 +1,16 @@
 use super::*;
 use crate::kind::Kind;
 use pic_base::Outcome::{Cancelled, Returned};
-use pic_base::{CompNo, FiberNo, Memory, Outcome, Value};
-use pic_machine::{Call, CompleteReply, Entry, Reply};
+use pic_base::{Action, CompNo, FiberNo, Memory, Outcome, PlaceNo, TriggerNo, Value};
+use pic_machine::{
+    ArmReply, AttachReply, Call, CompleteReply, Entry, Reply, SignalReply, TrigState,
+};
 use std::mem::size_of;
 use std::test::Fail;
 
-/// An entry of each kind, with the greatest numbers among others, and at the end some that no machine
-/// makes.
-fn entries() -> [Entry; 20] {
+/// An entry of each kind and of each call and reply, with the greatest numbers among others, and at the end
+/// some that no machine makes.
+fn entries() -> [Entry; 35] {
     let most = u32::MAX;
     [
         entry(1, Call::Turn, Reply::Plain),
@@ -27,6 +29,25 @@ fn entries() -> [Entry; 20] {
         entry(4, Call::Say(most), Reply::Plain),
         entry(2, Call::End(Returned(most)), Reply::Plain),
         entry(3, Call::End(Cancelled(0)), Reply::Plain),
+        entry(1, Call::NewTrigger, Reply::Made(most)),
+        entry(most, Call::NewTrigger, Reply::Full),
+        entry(2, Call::NewPlace, Reply::Made(0)),
+        entry(1, Call::Look(most), Reply::Seen(TrigState::Initial)),
+        entry(2, Call::Look(3), Reply::Seen(awaiting(most))),
+        entry(3, Call::Look(0), Reply::Seen(TrigState::Signalled)),
+        entry(1, arm(most, 1), Reply::Armed(ArmReply::Set)),
+        entry(2, arm(4, most), Reply::Armed(ArmReply::Signalled)),
+        entry(3, arm(5, 3), Reply::Armed(ArmReply::Taken)),
+        entry(0, Call::Signal(most), Reply::Signalled(SignalReply::Plain)),
+        entry(1, Call::Signal(6), acted(most)),
+        entry(2, Call::Signal(7), Reply::Signalled(SignalReply::Already)),
+        entry(
+            1,
+            attach(most, 8, 9),
+            Reply::Attached(AttachReply::Attached),
+        ),
+        entry(2, attach(8, most, 9), found(Returned(most))),
+        entry(3, attach(8, 9, most), found(Cancelled(7))),
         entry(5, Call::Yield, Reply::Made(4)),
         entry(6, fork(1, 2), Reply::Peeked(None)),
         entry(7, Call::Say(3), lost(Returned(4))),
@@ -44,6 +65,33 @@ fn complete(comp: CompNo, outcome: Outcome) -> Call {
 
 fn fork(text: u32, value: Value) -> Call {
     Call::Fork { text, value }
+}
+
+fn arm(trigger: TriggerNo, fiber: FiberNo) -> Call {
+    Call::Arm {
+        trigger,
+        action: Action::Resume(fiber),
+    }
+}
+
+fn attach(place: PlaceNo, comp: CompNo, trigger: TriggerNo) -> Call {
+    Call::Attach {
+        place,
+        comp,
+        trigger,
+    }
+}
+
+fn awaiting(fiber: FiberNo) -> TrigState {
+    TrigState::Awaiting(Action::Resume(fiber))
+}
+
+fn acted(fiber: FiberNo) -> Reply {
+    Reply::Signalled(SignalReply::Acted(Action::Resume(fiber)))
+}
+
+fn found(outcome: Outcome) -> Reply {
+    Reply::Attached(AttachReply::Completed(outcome))
 }
 
 fn won() -> Reply {
@@ -157,13 +205,13 @@ fn many_entries_are_read_back(rt: HostRuntime) -> Result<(), Fail> {
     let mut place = 0_u32;
     for entry in log.iter() {
         let wanted = expected.next().map(|other| Entry {
-            fiber: place / 20,
+            fiber: place / 35,
             ..*other
         });
         assert_eq!(rt; Some(entry), wanted);
         place = place.wrapping_add(1);
     }
-    assert_eq!(rt; place, 40_000);
+    assert_eq!(rt; place, 70_000);
     Ok(())
 }
 

@@ -22,14 +22,15 @@ fresh program birth number room = record {
   frames = [];
   noted = [];
   room = room;
+  owes = [];
 }
 
 pub is_new : (body : Shown) (program : Option Tree) (birth : Birth) (number : Option ℕ) (block : ℕ) → body.program ≡ program → body.birth ≡ birth → body.number ≡ number
     → body.context ≡ context_of birth → body.standing ≡ At block 0 → block ≡ block_in program birth.text → body.frames ≡ [] → body.noted ≡ []
-    → IsNew body program birth number
-is_new body program birth number block program_is birth_is number_is context standing text frames noted =
+    → body.owes ≡ [] → IsNew body program birth number
+is_new body program birth number block program_is birth_is number_is context standing text frames noted owes =
     let at : body.standing ≡ At (block_in program birth.text) 0 = standing ∙ ap (λ (k : ℕ). At k 0) text in
-    let is : body ≡ fresh program birth number body.room = rw (at, frames, context, program_is, birth_is, number_is, noted) refl in
+    let is : body ≡ fresh program birth number body.room = rw (at, frames, context, program_is, birth_is, number_is, noted, owes) refl in
     let leads : (f : ℕ) → LeadsTo body f [] = λ f. subst (λ (b : Shown). LeadsTo b f []) (sym is) (leads_new (record { fiber = f; script = script_in program }) (block_in program birth.text) (context_of birth)) in
     record {
       program_is = program_is;
@@ -39,5 +40,6 @@ is_new body program birth number block program_is birth_is number_is context sta
       standing = at;
       frames = frames;
       noted = noted;
+      owes = owes;
       fits = fits_led body [] noted (λ f mine. leads f) (λ f mine ended. let both : At block 0 ≡ Ended = sym standing ∙ ended in absurd cc);
     }

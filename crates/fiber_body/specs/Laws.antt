@@ -1,6 +1,7 @@
--- What ports rest on: a body's fitting doesn't depend on its room, nor, before the first entry, on its
--- number, and of the clock's body nothing is asked but its entries.
+-- What ports rest on: a body's fitting doesn't depend on its room and on what its fiber owes, nor, before the
+-- first entry, on its number, and of the clock's body nothing is asked but its entries.
 use Rattle.std.proofs.Common.{◌≡◌, ℕ, Option, Some, None, List, [], refl, sym, subst, ◌∙◌}
+use Rattle.pic_base.specs.declared.duty.Duty.{Duty}
 use Rattle.pic_machine.specs.declared.entry.Entry.{Entry}
 use Rattle.pic_machine.specs.Happened.{Happened}
 use Rattle.pic_machine.specs.Log.{own, visible}
@@ -40,19 +41,19 @@ fits_led body log noted leads over = record {
 
 -- ---- what a body stands for doesn't depend on what else differs
 
--- the body with another number, entries and room: it stands where it stood
-abbrev pub moved : Shown → Option ℕ → List Entry → ℕ → Shown
-moved body number noted room = record body { number = number; noted = noted; room = room }
+-- the body with another number, entries, room and duties: it stands where it stood
+abbrev pub moved : Shown → Option ℕ → List Entry → ℕ → List Duty → Shown
+moved body number noted room owes = record body { number = number; noted = noted; room = room; owes = owes }
 
 -- two bodies with one birth, one share and one rest differ in no more
 same_but : (old new : Shown) → IsSameRest old new → new.birth ≡ old.birth → new.program ≡ old.program
-    → new ≡ moved old new.number new.noted new.room
+    → new ≡ moved old new.number new.noted new.room new.owes
 same_but old new rest birth program = rw (rest.context, rest.standing, rest.frames, birth, program) refl
 
-fits_moved : (body : Shown) (number : Option ℕ) (noted : List Entry) (room : ℕ) (log : List Happened)
+fits_moved : (body : Shown) (number : Option ℕ) (noted : List Entry) (room : ℕ) (owes : List Duty) (log : List Happened)
     → Fits body log → noted ≡ body.noted → ((f : ℕ) → MayBeOf number f → MayBeOf body.number f)
-    → Fits (moved body number noted room) log
-fits_moved body number noted room log fits same may = record {
+    → Fits (moved body number noted room owes) log
+fits_moved body number noted room owes log fits same may = record {
   noted = same ∙ fits.noted;
   follows = λ script f program mine. fits.follows script f program (may f mine);
   stands = λ f mine. fits.stands f (may f mine);
@@ -63,14 +64,14 @@ pub fits_same : (old new : Shown) (log : List Happened) → Fits old log → IsS
     → IsSame (carry_of old) (carry_of new) → Fits new log
 fits_same old new log fits rest same =
     subst (λ (body : Shown). Fits body log) (sym (same_but old new rest same.birth same.share))
-    (fits_moved old new.number new.noted new.room log fits same.noted
+    (fits_moved old new.number new.noted new.room new.owes log fits same.noted
     (λ f mine. subst (λ (n : Option ℕ). MayBeOf n f) same.number mine))
 
 pub fits_fresh : (old new : Shown) → Fits old [] → old.number ≡ None → IsSameRest old new
     → new.birth ≡ old.birth → new.noted ≡ old.noted → new.program ≡ old.program → Fits new []
 fits_fresh old new fits none rest birth noted program =
     subst (λ (body : Shown). Fits body []) (sym (same_but old new rest birth program))
-    (fits_moved old new.number new.noted new.room [] fits noted
+    (fits_moved old new.number new.noted new.room new.owes [] fits noted
     (λ f mine. subst (λ (n : Option ℕ). MayBeOf n f) (sym none) tt))
 
 -- the clock's is no fiber's

@@ -17,4 +17,5 @@ pub record IsNew (body : Shown) (program : Option Tree) (birth : Birth) (number 
   pub standing : body.standing ≡ At (block_in program birth.text) 0
   pub frames : body.frames ≡ []
   pub noted : body.noted ≡ []
+  pub owes : body.owes ≡ []
   pub fits : Fits body []

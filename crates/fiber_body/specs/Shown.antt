@@ -1,9 +1,10 @@
 -- What contracts see of a fiber's body.
 use Rattle.std.specs.Prelude.{◌≡◌, ℕ, ◌<◌, Option, Some, None, List, [], ◌∷◌, ⊤}
 use Rattle.entry_log.specs.Logged.{Logged}
+use Rattle.pic_base.specs.declared.duty.Duty.{Duty}
 use Rattle.pic_machine.specs.declared.birth.Birth.{Birth}
 use Rattle.pic_machine.specs.declared.entry.Entry.{Entry}
-use Rattle.pic_machine.specs.Sight.{Carry, nothing}
+use Rattle.pic_machine.specs.Sight.{Carry}
 use Rattle.script_tree.specs.Tree.{Tree}
 use Rattle.fiber_body.specs.declared.standing.Exit.{Exit}
 use Rattle.fiber_body.specs.declared.standing.Standing.{Standing}
@@ -14,7 +15,8 @@ use Rattle.fiber_body.specs.Statements.{Effect}
 
 -- the program that it shares, which the clock's body has not; what its fiber was made with, and the
 -- fiber's number once it has one; what its statements read and write; where it stands in its text, and what
--- is around that, the innermost first; the entries that were noted, and for how many more there is room
+-- is around that, the innermost first; the entries that were noted, for how many more there is room, and what
+-- the fiber owes
 pub record Shown : Type 0 where
   pub program : Option Tree
   pub birth : Birth
@@ -24,15 +26,16 @@ pub record Shown : Type 0 where
   pub frames : List Frame
   pub noted : List Entry
   pub room : ℕ
+  pub owes : List Duty
 
--- the body as every port sees it; nobody owes anything yet
+-- the body as every port sees it
 abbrev pub carry_of : Shown → Carry (Option Tree)
 carry_of body = record {
   birth = body.birth;
   number = body.number;
   noted = body.noted;
   room = body.room;
-  owes = nothing;
+  owes = body.owes;
   share = body.program;
 }
 

@@ -9,7 +9,7 @@ use Rattle.fiber_body.specs.Texts.{main_text}
 -- the root and the declared computations stand (so far nothing else is declared), and main runs the
 -- main text
 abbrev pub start_of : Tree → Limits → Start
-start_of script limits = record { comps = length script.decls + 1; text = main_text script; limits = limits }
+start_of script limits = record { triggers = 0; comps = length script.decls + 1; text = main_text script; limits = limits }
 
 -- main runs the main text and is handed 0, and its current computation is the root
 abbrev pub main_birth : Tree → Birth

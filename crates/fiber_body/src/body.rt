@@ -11,10 +11,11 @@ use crate::standing::{Frame, Standing};
 use crate::texts::block_of;
 use entry_log::FiberLog;
 use pic_base::{CompNo, FiberNo, Memory, STEPS, Value};
-use pic_machine::Birth;
+use pic_machine::{Birth, Duties};
 use script_tree::{Operand, Program};
 use std::alloc::Global;
 use std::marker::Model;
+use std::snapshot::Snapshot;
 use std::sync::Arc;
 
 /// A fiber's body: all that a fiber is between two entries. Contracts see it as the `Shown` of
@@ -36,6 +37,8 @@ pub(crate) struct Content {
     standing: Standing,
     frames: Vec<Frame>,
     pub(crate) noted: FiberLog,
+    // What the fiber owes stands in the port's world; contracts alone see it here.
+    pub(crate) owed: Snapshot<Duties>,
 }
 
 impl Model for Body {
@@ -60,6 +63,7 @@ impl Model for Body {
       frames = reverse body.content.value.frames.items;
       noted = body.content.value.noted.entries;
       room = body.content.value.noted.room;
+      owes = body.content.value.owed.value;
     } };
 
     ghost use Rattle.std.specs.List.{AllByRecursion};
@@ -128,6 +132,7 @@ impl Body {
             standing: Standing::At { block, place: 0 },
             frames: Vec::new(alloc),
             noted: FiberLog::new(alloc, number.unwrap_or(0)),
+            owed: Snapshot::of(&Duties::none(alloc)),
         };
         Ok(Body {
             content: Box::new(alloc, content)?,

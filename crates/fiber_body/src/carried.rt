@@ -6,8 +6,9 @@ ghost use Rattle.fiber_body.specs.Laws.{clock_fits, fits_fresh, fits_same};
 
 use crate::body::Body;
 use pic_base::{FiberNo, Memory};
-use pic_machine::{Birth, Call, Carried, Reply};
+use pic_machine::{Birth, Call, Carried, Duties, Reply};
 use script_tree::Program;
+use std::snapshot::Snapshot;
 
 impl Carried for Body {
     type Share = Option<Program>;
@@ -42,6 +43,11 @@ impl Carried for Body {
     #[inline(always)]
     fn note(&mut self, call: Call, reply: Reply) {
         self.content.noted.note(call, reply);
+    }
+
+    #[inline(always)]
+    fn owe(&mut self, duties: Snapshot<Duties>) {
+        self.content.owed = duties;
     }
 
     ghost shows = { λ body log fits. fits.noted };

@@ -14,6 +14,7 @@ pub fn start_of(program: &Program, limits: Limits) -> Start
     ensures main { result.text < length program.now.texts }
 {
     Start {
+        triggers: 0,
         comps: program.decls.len() as u32 + 1,
         text: main_text(program),
         limits,

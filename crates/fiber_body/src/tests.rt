@@ -166,6 +166,8 @@ fn statements_change_registers_and_storage(rt: HostRuntime) -> Result<(), Fail> 
 fn a_start_has_the_root_and_main(rt: HostRuntime) -> Result<(), Fail> {
     let program = parse(rt.alloc(), SCRIPT.as_bytes())?;
     let limits = Limits {
+        triggers: 4,
+        places: 4,
         fibers: 4,
         comps: 9,
     };

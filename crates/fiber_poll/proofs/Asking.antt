@@ -91,6 +91,11 @@ taken_lighter b spot one reply at some =
     let light = behind_weight spot e.exit in
     omega (arith, there, before, light, e.steps, some)
 
+-- what is owed doesn't change by it
+pub taken_owes : (b : Shown) (spot : Spot) (p : Phase) → (taken b spot p).owes ≡ b.owes
+taken_owes b spot (ended exit c) = refl
+taken_owes b spot _ = refl
+
 -- ---- where its entry leads
 
 module _ (a : Shown) (f : ℕ) (spot : Spot) (one : Stmt) (call : Call) (reply : Reply) (mine : List Happened) where
@@ -197,7 +202,7 @@ module _ (p q : Sight (Option Tree)) (before now : Option (List ℕ)) (tree : Tr
       let goes = goes_on_by tree f call reply (born a.context call) can in
       let there : taken b spot (replied (stepped b.context) one reply) ≡ left_by b spot e.exit e.context =
       ap (λ (c : Context). taken b spot (replied (stepped c) one reply)) made.rest.context ∙ taken_is b spot (stepped a.context) (replied (stepped a.context) one reply) e in
-      let same : left_by b spot e.exit e.context ≡ record (left_by a spot e.exit e.context) { number = b.number; noted = b.noted; room = b.room } = rw (made.rest.frames, made.lent.birth, made.lent.share) refl in
+      let same : left_by b spot e.exit e.context ≡ record (left_by a spot e.exit e.context) { number = b.number; noted = b.noted; room = b.room; owes = b.owes } = rw (made.rest.frames, made.lent.birth, made.lent.share) refl in
       subst (λ (d : Shown). IsOn p q a d before now) (sym there)
       (on_lent p q a (left_by b spot e.exit e.context) before now h up made.lent refl goes.1 refl goes.0 made.line
       (subst (λ (d : Shown). LeadsTo d f (own (log p.front f) ++ h ∷ [])) (sym same) (leads_asked a f spot one call reply (own (log p.front f)) here none is asks up.leads))
@@ -209,7 +214,7 @@ module _ (p q : Sight (Option Tree)) (before now : Option (List ℕ)) (tree : Tr
   on_called a b d numbers counted of up here none is asks notes same_rest made =
       let on : IsOn p p a b before before = on_reserved up notes same_rest in
       let program : tree ≡ script_in b.program = sym (ap script_in (program_up tree p b of on.up)) in
-      let there : b ≡ record a { number = b.number; noted = b.noted; room = b.room } = rw (same_rest.context, same_rest.standing, same_rest.frames, notes.birth, notes.share) refl in
+      let there : b ≡ record a { number = b.number; noted = b.noted; room = b.room; owes = b.owes } = rw (same_rest.context, same_rest.standing, same_rest.frames, notes.birth, notes.share) refl in
       let same = sym same_rest.context in
       on_trans on
       (on_made b d on.up (subst (λ (z : Shown). IsBefore z spot one) (sym there) (record { here = record { at = here.here.at; is = here.here.is; within = here.here.within }; steps = here.steps }))

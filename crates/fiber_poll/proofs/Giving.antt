@@ -55,6 +55,10 @@ module _ {script : Tree} {port : Sight (Option Tree)} (of : IsPortOf script port
   pub names_stand : (call : Call) → CanAsk script call → NamesStand (world port.origin port.front) call
   names_stand (asked.Peek comp) can = comp_stands comp can
   names_stand (asked.Complete comp outcome) can = comp_stands comp can
+  names_stand (asked.Look trigger) can = absurd can
+  names_stand (asked.Arm trigger action) can = absurd can
+  names_stand (asked.Signal trigger) can = absurd can
+  names_stand (asked.Attach place comp trigger) can = absurd can
   names_stand _ can = tt
 
   -- a new body of the program, with the current computation of one that is up, may become a child
@@ -64,7 +68,7 @@ module _ {script : Tree} {port : Sight (Option Tree)} (of : IsPortOf script port
       let stands = current_stands port.origin port.front (fiber_of (carry_of body)) body.birth up.holds.legal of.main (up.holds.birth up.fiber) in
       record {
         unnumbered = new.number_is;
-        owes = refl;
+        owes = new.owes;
         same_text = ap (λ (b : Birth). b.text) new.birth_is;
         same_value = ap (λ (b : Birth). b.value) new.birth_is;
         stands = subst (λ (b : Birth). b.current < n) (sym new.birth_is) (subst (λ (k : ℕ). k < n) (sym same) stands);

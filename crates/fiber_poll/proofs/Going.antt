@@ -8,15 +8,16 @@ use Rattle.pic_machine.specs.declared.port.PortFault.{PortFault}
 use Rattle.pic_machine.specs.declared.port.PortFault.TheVariants.{Full, Again, Memory}
 use Rattle.pic_machine.specs.State.{owed_of}
 use Rattle.pic_machine.specs.Duty.{DutiesAllow}
-use Rattle.pic_machine.specs.Step.{NamesStand}
-use Rattle.pic_machine.specs.History.{world}
+use Rattle.pic_machine.specs.Step.{ArmsOwn, NamesStand}
+use Rattle.pic_machine.specs.History.{NumbersFit, world}
 use Rattle.pic_machine.specs.Log.{is_turn, log, own}
 use Rattle.pic_machine.specs.Order.{GoesOn, readied}
-use Rattle.pic_machine.specs.Sight.{CanMake, Carry, Holds, Notes, Sight, fiber_of, nothing}
+use Rattle.pic_machine.specs.Sight.{CanMake, Carry, Holds, Notes, Sight, fiber_of}
 use Rattle.pic_machine.specs.Lending.{Calm, Faulted, Lent, Refuses, Spared}
 use Rattle.pic_machine.specs.Turning.{Adds, Went}
 use Rattle.pic_machine.proofs.Owns.{own-push}
 use Rattle.pic_machine.proofs.Turns.{Went-trans, grew_made, grew_others, rose_from, went_lent, went_none, went_spared}
+use Rattle.fiber_await.specs.Discharging.{Discharged}
 use Rattle.script_tree.specs.Tree.{Tree}
 use Rattle.fiber_body.specs.declared.standing.Standing.TheVariants.{Ended}
 use Rattle.fiber_body.specs.Fits.{LeadsTo}
@@ -28,23 +29,23 @@ use Rattle.fiber_poll.specs.UnderWay.{IsOn, IsUp}
 
 -- ---- calls that may be made
 
-nothing_owed : (port : Sight (Option Tree)) (body : Shown) → IsUp port body → port.duties nothing ≡ [] → owed_of (world port.origin port.front) (fiber_of (carry_of body)) ≡ []
-nothing_owed port body up none = sym up.holds.owes ∙ none
-
 allowed_free : (duties : List Duty) (call : Call) → duties ≡ [] → DutiesAllow duties call
 allowed_free duties call none = subst (λ (ds : List Duty). DutiesAllow ds call) (sym none) tt
 
--- a fiber whose body is up owes nothing, so it may make whatever names what stands
-pub can_make : {port : Sight (Option Tree)} {body : Shown} {call : Call} → IsUp port body → port.duties nothing ≡ [] → 0 < body.room → NamesStand (world port.origin port.front) call → CanMake port (carry_of body) call
-can_make {port} {body} {call} up none room names = record {
+-- a fiber that owes nothing may make whatever names what stands, and what it may use
+pub can_make : {port : Sight (Option Tree)} {body : Shown} {call : Call} → IsUp port body → body.owes ≡ [] → 0 < body.room → NamesStand (world port.origin port.front) call
+    → ArmsOwn (fiber_of (carry_of body)) call → NumbersFit port.origin port.front (fiber_of (carry_of body)) call → CanMake port (carry_of body) call
+can_make {port} {body} {call} up free room names own numbers = record {
   holds = up.holds;
   may = record {
     allowed = record {
       caller = up.holds.acts;
       clock = λ clock. absurd (up.fiber clock);
-      duties = allowed_free (owed_of (world port.origin port.front) (fiber_of (carry_of body))) call (nothing_owed port body up none);
+      duties = allowed_free (owed_of (world port.origin port.front) (fiber_of (carry_of body))) call (sym up.holds.owes ∙ free);
       names = names;
+      own = own;
     };
+    numbers = numbers;
   };
   room = room;
 }
@@ -61,7 +62,7 @@ same_number a b same = ap (λ (n : Option ℕ). fiber_of (carry_of (record a { n
 -- a body is where another one is that has the same rest
 pub leads_same : (a b : Shown) (f : ℕ) (mine : List Happened) → IsSameRest a b → b.birth ≡ a.birth → b.program ≡ a.program → LeadsTo a f mine → LeadsTo b f mine
 leads_same a b f mine rest birth program leads =
-    let is : b ≡ record a { number = b.number; noted = b.noted; room = b.room } = rw (rest.context, rest.standing, rest.frames, birth, program) refl in
+    let is : b ≡ record a { number = b.number; noted = b.noted; room = b.room; owes = b.owes } = rw (rest.context, rest.standing, rest.frames, birth, program) refl in
     subst (λ (x : Shown). LeadsTo x f mine) (sym is) leads
 
 -- or goes to from there
@@ -80,6 +81,10 @@ up_led p b f holds mine fiber leads live = record {
   leads = subst (λ (n : ℕ). LeadsTo b n (own (log p.front n))) (sym mine) leads;
   live = live;
 }
+
+-- a body that moved owes what it owed
+pub free_gone : {a b : Shown} → Goes a b → a.owes ≡ [] → b.owes ≡ []
+free_gone goes free = ap (λ (c : Carry (Option Tree)). c.owes) goes.same ∙ free
 
 still_live : (a b : Shown) → IsSameRest a b → a.standing ≢ Ended → b.standing ≢ Ended
 still_live a b rest live ended = live (sym rest.standing ∙ ended)
@@ -110,7 +115,7 @@ holds_noted {S} p a b holds notes =
       out = holds.out ∙ ap Some (sym same);
       number = notes.number ∙ (holds.number ∙ ap Some (sym same));
       noted = rw same (notes.noted ∙ (append-nil a.noted ∙ holds.noted));
-      owes = rw same (ap p.duties notes.owes ∙ holds.owes);
+      owes = rw same (notes.owes ∙ holds.owes);
       acts = rw same holds.acts;
       birth = rw same (λ fiber. holds.birth fiber ∙ ap Some (sym notes.birth));
       share = rw same (λ fiber. notes.share ∙ holds.share fiber);
@@ -168,6 +173,17 @@ on_lent p q a d before now h up lent mine within free on line leads live =
     record {
       went = went_lent p q (carry_of a) (carry_of d) before now h lent mine within on line;
       up = up_led q d f lent.holds (same_number a d lent.number) up.fiber (subst (LeadsTo d f) (sym logs) leads) live;
+    }
+
+-- what a fiber owed was fulfilled: its own log is as before, and leads where it led
+pub on_discharged : {p q : Sight (Option Tree)} {a d : Shown} {before now : Option (List ℕ)} → IsUp p a → Discharged p q (carry_of a) (carry_of d) before now
+    → own (log q.front (fiber_of (carry_of a))) ≡ own (log p.front (fiber_of (carry_of a))) → IsSameRest a d → IsOn p q a d before now
+on_discharged {p} {q} {a} {d} up done same rest =
+    let f = fiber_of (carry_of a) in
+    record {
+      went = done.went;
+      up = up_led q d f done.went.holds (same_number a d done.went.number) up.fiber
+          (subst (LeadsTo d f) (sym same) (leads_same a d f (own (log p.front f)) rest done.birth done.share up.leads)) (still_live a d rest up.live);
     }
 
 -- a fault behind a part in which nobody was in the way

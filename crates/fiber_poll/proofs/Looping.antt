@@ -4,8 +4,11 @@ use Rattle.std.specs.Prelude.{IsTrue}
 use Rattle.pic_machine.specs.History.{IsLegal, world}
 use Rattle.pic_machine.specs.Log.{log}
 use Rattle.pic_machine.specs.Sight.{Holds, Sight, fiber_of}
+use Rattle.pic_machine.specs.State.{IsStart}
 use Rattle.pic_machine.specs.Step.{MayAct}
+use Rattle.pic_machine.specs.Suspending.{IsTied}
 use Rattle.pic_machine.proofs.Ends.{no_end}
+use Rattle.pic_machine.proofs.Suspensions.{starts_tied}
 use Rattle.script_tree.specs.declared.program.Stmt.{Stmt}
 use Rattle.script_tree.specs.Tree.{Tree}
 use Rattle.fiber_body.specs.declared.standing.Standing.TheVariants.{At}
@@ -48,18 +51,18 @@ pub on_with : {p q : Sight (Option Tree)} {a b d : Shown} {start now : Option (L
 on_with on goes = on_trans on (on_gone on.up goes)
 
 -- a fiber that may act hasn't ended
-not_ended : (port : Sight (Option Tree)) (f : ℕ) → IsLegal port.origin port.front → MayAct (world port.origin port.front) f → f ≢ 0 → IsOver f (log port.front f) → ⊥
-not_ended port f legal (inl clock) fiber over = fiber clock
-not_ended port f legal (inr live) fiber over = no_end port.origin port.front f over.before over.outcome legal live over.is
+not_ended : (port : Sight (Option Tree)) (f : ℕ) → IsTied port.origin.world → IsLegal port.origin port.front → MayAct (world port.origin port.front) f → f ≢ 0 → IsOver f (log port.front f) → ⊥
+not_ended port f tied legal (inl clock) fiber over = fiber clock
+not_ended port f tied legal (inr live) fiber over = no_end port.origin port.front f over.before over.outcome tied legal live over.is
 
 -- a body that fits its fiber's log is up
-pub up_fit : {port : Sight (Option Tree)} {body : Shown} → Holds port (carry_of body) → fiber_of (carry_of body) ≢ 0 → Fits body (log port.front (fiber_of (carry_of body))) → IsUp port body
-up_fit {port} {body} holds fiber fits =
+pub up_fit : {port : Sight (Option Tree)} {body : Shown} → IsStart port.origin.world → Holds port (carry_of body) → fiber_of (carry_of body) ≢ 0 → Fits body (log port.front (fiber_of (carry_of body))) → IsUp port body
+up_fit {port} {body} start holds fiber fits =
     let f = fiber_of (carry_of body) in
     let mine : MayBeOf body.number f = subst (λ (n : Option ℕ). MayBeOf n f) (sym holds.number) (refl, fiber) in
     record {
       holds = holds;
       fiber = fiber;
       leads = fits.stands f mine;
-      live = λ ended. not_ended port f holds.legal holds.acts fiber (fits.over f mine ended);
+      live = λ ended. not_ended port f (starts_tied port.origin.world start) holds.legal holds.acts fiber (fits.over f mine ended);
     }

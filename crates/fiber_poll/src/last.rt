@@ -1,6 +1,6 @@
 //! The last call of a turn, by which the port gets the body back. The port keeps the body as it stands behind
 //! that call; where the call is refused, the body is set back.
-ghost use Rattle.std.specs.Prelude.{◌≡◌, ◌≢◌, ℕ, List, Option};
+ghost use Rattle.std.specs.Prelude.{◌≡◌, ◌≢◌, ℕ, [], List, Option};
 ghost use Rattle.pic_machine.specs.Turning.{Polled};
 ghost use Rattle.fiber_body.specs.Fits.{Fits};
 ghost use Rattle.fiber_body.specs.Shown.{carry_of};
@@ -21,6 +21,7 @@ pub(crate) fn yield_turn<P: Port<Body = Body>, R: ReadyLine>(
     spot: Spot,
 ) -> Turn<Body>
     requires up { IsUp (P.sight port.old) body }
+    requires free { body.owes ≡ [] }
     requires before { IsBefore body spot Stmt.Yield }
     ensures { Polled result carry_of Fits (P.sight port.old) (P.sight port.new) (carry_of body) (R.told line.old) (R.told line.new) }
 {
@@ -55,6 +56,7 @@ pub(crate) fn end_turn<P: Port<Body = Body>>(
     outcome: Outcome,
 ) -> Turn<Body>
     requires up { IsUp (P.sight port.old) body }
+    requires free { body.owes ≡ [] }
     requires ending { body.standing ≡ Standing.Ending outcome }
     ensures { (told : Option (List ℕ)) → Polled result carry_of Fits (P.sight port.old) (P.sight port.new) (carry_of body) told told }
 {

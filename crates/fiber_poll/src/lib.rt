@@ -12,6 +12,7 @@ mod calls;
 mod forms;
 mod last;
 mod making;
+mod owed;
 mod poller;
 mod silent;
 mod spot;

@@ -1,5 +1,5 @@
 //! Calls of the port, for a statement that goes on in the same turn.
-ghost use Rattle.std.specs.Prelude.{◌≡◌, ◌<◌, IfErr, IfOk, OnErr, OnOk};
+ghost use Rattle.std.specs.Prelude.{◌≡◌, ◌<◌, [], IfErr, IfOk, OnErr, OnOk};
 ghost use Rattle.pic_machine.specs.Lending.{Calm, Faulted};
 ghost use Rattle.script_tree.specs.WellFormed.{IsFiberText};
 ghost use Rattle.fiber_body.specs.Shown.{IsSameRest};
@@ -21,6 +21,7 @@ pub(crate) fn make<P: Port<Body = Body>, R: ReadyLine>(
 ) -> Result<Reply, PortFault>
     requires port_of { IsPortOf poller.now (P.sight port.old) }
     requires up { IsUp (P.sight port.old) body.old }
+    requires free { body.old.owes ≡ [] }
     requires room { 0 < body.old.room }
     requires can { CanAsk poller.now call }
     ensures made { IfOk result (λ reply. IsMade (P.sight port.old) (P.sight port.new) body.old body.new (R.told line.old) (R.told line.new) call reply) }
@@ -37,7 +38,7 @@ pub(crate) fn make<P: Port<Body = Body>, R: ReadyLine>(
             body, comp, outcome,
         )?)),
         Call::Fork { text, value } => fork(poller, port, line, body, text, value),
-        Call::Turn | Call::Yield | Call::End(_) => unreachable!("the turn goes on behind the call"),
+        _ => unreachable!("no statement asks for another call behind which its turn goes on"),
     }
 }
 
@@ -52,6 +53,7 @@ fn fork<P: Port<Body = Body>, R: ReadyLine>(
 ) -> Result<Reply, PortFault>
     requires port_of { IsPortOf poller.now (P.sight port.old) }
     requires up { IsUp (P.sight port.old) body.old }
+    requires free { body.old.owes ≡ [] }
     requires room { 0 < body.old.room }
     requires text { IsFiberText poller.now text }
     ensures made { IfOk result (λ reply. IsMade (P.sight port.old) (P.sight port.new) body.old body.new (R.told line.old) (R.told line.new) (Call.Fork text value) reply) }

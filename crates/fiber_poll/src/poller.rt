@@ -6,7 +6,7 @@ ghost use Rattle.fiber_poll.specs.Yields.{few_yields};
 
 use crate::last::{end_turn, handed_back, yield_turn};
 use crate::spot::Last;
-use crate::turn::run_on;
+use crate::turn::run_turn;
 use fiber_body::{Body, Numbers};
 use pic_base::Memory;
 use pic_machine::{Poller, Port, ReadyLine, Turn};
@@ -56,7 +56,7 @@ impl<P: Port<Body = Body>> Poller<P> for ScriptPoller {
 
     fn poll<R: ReadyLine>(&self, port: &mut P, line: &mut R, body: Body) -> Turn<Body> {
         let mut body = body;
-        match run_on(self, port, line, &mut body) {
+        match run_turn(self, port, line, &mut body) {
             Ok(Last::Yield(spot)) => yield_turn(port, line, body, spot),
             Ok(Last::End(outcome)) => end_turn(port, body, outcome),
             Err(fault) => handed_back(body, fault),

@@ -1,5 +1,5 @@
 //! Statements that don't come to their end at once: those with a block, and those with a call.
-ghost use Rattle.std.specs.Prelude.{◌≡◌, ◌≢◌, ◌<◌, None, IfErr, IfOk, OnErr, OnOk};
+ghost use Rattle.std.specs.Prelude.{◌≡◌, ◌≢◌, ◌<◌, [], None, IfErr, IfOk, OnErr, OnOk};
 ghost use Rattle.std.specs.Bool.{OnFalse, OnTrue};
 ghost use Rattle.pic_machine.specs.Lending.{Calm, Faulted};
 ghost use Rattle.fiber_body.specs.Statements.{first, result as result_of};
@@ -12,6 +12,7 @@ ghost use Rattle.script_tree.specs.Tree.{Tree};
 use crate::blocks::enter;
 use crate::calls::{call_of, take};
 use crate::making::make;
+use crate::owed::{brings_duties, discharge};
 use crate::poller::ScriptPoller;
 use crate::spot::Spot;
 use fiber_body::{Body, Frame};
@@ -49,7 +50,8 @@ pub(crate) fn enter_block(body: &mut Body, spot: Spot, stmt: &Stmt) -> Result<bo
     Ok(true)
 }
 
-/// Makes the call of a statement, which is no yield, and ends the statement by its reply.
+/// Makes the call of a statement, which is no yield, ends the statement by its reply, and fulfils what the
+/// fiber owes then.
 pub(crate) fn call<P: Port<Body = Body>, R: ReadyLine>(
     poller: &ScriptPoller,
     port: &mut P,
@@ -60,6 +62,7 @@ pub(crate) fn call<P: Port<Body = Body>, R: ReadyLine>(
 ) -> Result<(), PortFault>
     requires port_of { IsPortOf poller.now (P.sight port.old) }
     requires up { IsUp (P.sight port.old) body.old }
+    requires free { body.old.owes ≡ [] }
     requires before { IsBefore body.old spot stmt.now }
     requires not_done { result_of body.old.context.registers body.old.context.cells stmt.now ≡ None }
     requires calls { first body.old.context stmt.now ≡ calls stmt.now }
@@ -67,6 +70,37 @@ pub(crate) fn call<P: Port<Body = Body>, R: ReadyLine>(
     requires can { CanRun poller.now stmt.now }
     ensures on { IsOn (P.sight port.old) (P.sight port.new) body.old body.new (R.told line.old) (R.told line.new) }
     ensures lighter { OnOk result (weight body.new < weight body.old) }
+    ensures free { OnOk result (body.new.owes ≡ []) }
+    ensures calm { OnOk result (Calm (P.sight port.old) (P.sight port.new)) }
+    ensures gave_up { IfErr result (λ fault. Faulted fault (P.sight port.old) (P.sight port.new)) }
+{
+    let may_owe = ask(poller, port, line, body, spot, stmt)?;
+    if may_owe {
+        discharge(port, line, body)?;
+    }
+    Ok(())
+}
+
+/// Makes the call and ends the statement by its reply. Answers whether the fiber may owe something then.
+fn ask<P: Port<Body = Body>, R: ReadyLine>(
+    poller: &ScriptPoller,
+    port: &mut P,
+    line: &mut R,
+    body: &mut Body,
+    spot: Spot,
+    stmt: &Stmt,
+) -> Result<bool, PortFault>
+    requires port_of { IsPortOf poller.now (P.sight port.old) }
+    requires up { IsUp (P.sight port.old) body.old }
+    requires free { body.old.owes ≡ [] }
+    requires before { IsBefore body.old spot stmt.now }
+    requires not_done { result_of body.old.context.registers body.old.context.cells stmt.now ≡ None }
+    requires calls { first body.old.context stmt.now ≡ calls stmt.now }
+    requires no_yield { stmt.now ≢ Stmt.Yield }
+    requires can { CanRun poller.now stmt.now }
+    ensures on { IsOn (P.sight port.old) (P.sight port.new) body.old body.new (R.told line.old) (R.told line.new) }
+    ensures lighter { OnOk result (weight body.new < weight body.old) }
+    ensures free { IfOk result (λ may_owe. OnFalse may_owe (body.new.owes ≡ [])) }
     ensures calm { OnOk result (Calm (P.sight port.old) (P.sight port.new)) }
     ensures gave_up { IfErr result (λ fault. Faulted fault (P.sight port.old) (P.sight port.new)) }
 {
@@ -78,5 +112,5 @@ pub(crate) fn call<P: Port<Body = Body>, R: ReadyLine>(
     }
     let reply = make(poller, port, line, body, call)?;
     take(body, spot, stmt, reply);
-    Ok(())
+    Ok(brings_duties(call))
 }

@@ -1,11 +1,12 @@
 //! The part of a turn before its last call: statements, one by one.
-ghost use Rattle.std.specs.Prelude.{◌≡◌, ◌<◌, ℕ, Some, IfErr, IfOk, OnOk};
+ghost use Rattle.std.specs.Prelude.{◌≡◌, ◌<◌, ℕ, [], Some, IfErr, IfOk, OnOk};
 ghost use Rattle.pic_machine.specs.Lending.{Calm, Faulted};
 ghost use Rattle.fiber_poll.specs.Moving.{IsAt, IsWaiting};
 ghost use Rattle.fiber_poll.specs.Polls.{IsPortOf};
 ghost use Rattle.fiber_poll.specs.UnderWay.{CanRun, IsLast, IsOn, IsStep, IsUp};
 
 use crate::blocks::leave;
+use crate::owed::discharge;
 use crate::poller::ScriptPoller;
 use crate::silent::{run_silently, stmt_at};
 use crate::spot::{Last, Spot};
@@ -15,8 +16,9 @@ use pic_base::Memory;
 use pic_machine::{Port, PortFault, ReadyLine};
 use script_tree::Stmt;
 
-/// Runs statements until the turn is to end, and tells by which last call.
-pub(crate) fn run_on<P: Port<Body = Body>, R: ReadyLine>(
+/// Runs a turn up to its last call, and tells which one that is. What the fiber owes comes first: a turn that
+/// was broken off may have left some of it.
+pub(crate) fn run_turn<P: Port<Body = Body>, R: ReadyLine>(
     poller: &ScriptPoller,
     port: &mut P,
     line: &mut R,
@@ -26,6 +28,27 @@ pub(crate) fn run_on<P: Port<Body = Body>, R: ReadyLine>(
     requires up { IsUp (P.sight port.old) body.old }
     ensures on { IsOn (P.sight port.old) (P.sight port.new) body.old body.new (R.told line.old) (R.told line.new) }
     ensures last { IfOk result (λ last. IsLast body.new last) }
+    ensures free { OnOk result (body.new.owes ≡ []) }
+    ensures calm { OnOk result (Calm (P.sight port.old) (P.sight port.new)) }
+    ensures gave_up { IfErr result (λ fault. Faulted fault (P.sight port.old) (P.sight port.new)) }
+{
+    discharge(port, line, body)?;
+    run_on(poller, port, line, body)
+}
+
+/// Runs statements until the turn is to end, and tells by which last call.
+fn run_on<P: Port<Body = Body>, R: ReadyLine>(
+    poller: &ScriptPoller,
+    port: &mut P,
+    line: &mut R,
+    body: &mut Body,
+) -> Result<Last, PortFault>
+    requires port_of { IsPortOf poller.now (P.sight port.old) }
+    requires up { IsUp (P.sight port.old) body.old }
+    requires free { body.old.owes ≡ [] }
+    ensures on { IsOn (P.sight port.old) (P.sight port.new) body.old body.new (R.told line.old) (R.told line.new) }
+    ensures last { IfOk result (λ last. IsLast body.new last) }
+    ensures free { OnOk result (body.new.owes ≡ []) }
     ensures calm { OnOk result (Calm (P.sight port.old) (P.sight port.new)) }
     ensures gave_up { IfErr result (λ fault. Faulted fault (P.sight port.old) (P.sight port.new)) }
 {
@@ -56,9 +79,11 @@ fn run_from<P: Port<Body = Body>, R: ReadyLine>(
 ) -> Result<Option<Last>, PortFault>
     requires port_of { IsPortOf poller.now (P.sight port.old) }
     requires up { IsUp (P.sight port.old) body.old }
+    requires free { body.old.owes ≡ [] }
     requires at { body.old.standing ≡ Standing.At block place }
     ensures on { IsOn (P.sight port.old) (P.sight port.new) body.old body.new (R.told line.old) (R.told line.new) }
     ensures step { IfOk result (λ last. IsStep body.old body.new last) }
+    ensures free { OnOk result (body.new.owes ≡ []) }
     ensures calm { OnOk result (Calm (P.sight port.old) (P.sight port.new)) }
     ensures gave_up { IfErr result (λ fault. Faulted fault (P.sight port.old) (P.sight port.new)) }
 {
@@ -87,11 +112,13 @@ fn begin<P: Port<Body = Body>, R: ReadyLine>(
 ) -> Result<Option<Last>, PortFault>
     requires port_of { IsPortOf poller.now (P.sight port.old) }
     requires up { IsUp (P.sight port.old) body.old }
+    requires free { body.old.owes ≡ [] }
     requires at { IsAt body.old spot stmt.now }
     requires waits { 0 < body.old.context.steps → IsWaiting body.old.context stmt.now }
     requires can { CanRun poller.now stmt.now }
     ensures on { IsOn (P.sight port.old) (P.sight port.new) body.old body.new (R.told line.old) (R.told line.new) }
     ensures step { IfOk result (λ last. IsStep body.old body.new last) }
+    ensures free { OnOk result (body.new.owes ≡ []) }
     ensures calm { OnOk result (Calm (P.sight port.old) (P.sight port.new)) }
     ensures gave_up { IfErr result (λ fault. Faulted fault (P.sight port.old) (P.sight port.new)) }
 {

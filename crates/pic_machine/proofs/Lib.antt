@@ -12,6 +12,8 @@ pub mod Homes
 pub mod Owns
 pub mod NumbersByLog
 pub mod Turns
+pub mod Freeing
+pub mod Lendings
 pub mod Comps
 pub mod Fates
 pub mod Lasting
@@ -33,5 +35,3 @@ pub mod Keeping
 pub mod Asleep
 pub mod Dues
 pub mod Lawfully
-pub mod Freeing
-pub mod Lendings

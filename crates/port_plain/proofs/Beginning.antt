@@ -5,7 +5,7 @@ use Rattle.pic_machine.specs.Happened.{Happened}
 use Rattle.pic_machine.specs.State.{CanStart, world_at}
 use Rattle.pic_machine.specs.Sight.{Carry, IsSame, Notes}
 use Rattle.pic_machine.proofs.Histories.{IsLegal-nil}
-use Rattle.port_plain.specs.Shown.{IsAtHome, IsClock, IsMain, Shown, listed, origin_in}
+use Rattle.port_plain.specs.Shown.{IsAtHome, IsClock, IsMain, Shown, origin_in}
 use Rattle.port_plain.specs.Stored.{IsStored}
 
 module _ {B S : Type 0} (seen : B → Carry S) (fits : B → List Happened → Type 0) (start : Start) (main clock numbered ticking : B) where
@@ -21,7 +21,7 @@ module _ {B S : Type 0} (seen : B → Carry S) (fits : B → List Happened → T
         birth = λ fiber. ap Some (sym (ap (λ (body : Carry S). body.birth) is));
         share = λ fiber. ap (λ (body : Carry S). body.share) is;
       };
-      owes = ap (λ (body : Carry S). listed body.owes) is ∙ ap listed may.owes;
+      owes = ap (λ (body : Carry S). body.owes) is ∙ may.owes;
     }
 
     home_there : (place : ℕ) (body : B) → slice_get (Some numbered ∷ []) place ≡ Some (Some body) → IsAtHome seen fits port (place + 1) body
@@ -42,7 +42,7 @@ module _ {B S : Type 0} (seen : B → Carry S) (fits : B → List Happened → T
       birth = λ fiber. absurd (fiber refl);
       share = λ fiber. absurd (fiber refl);
     };
-    owes = ap listed (notes.owes ∙ may.owes);
+    owes = notes.owes ∙ may.owes;
   }
 
   pub opened_stored : CanStart start → IsMain seen fits start main → seen numbered ≡ record (seen main) { number = Some 1 } → fits numbered []

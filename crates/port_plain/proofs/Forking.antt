@@ -1,5 +1,5 @@
 -- How a fork keeps the port's invariant, whether it makes a fiber or finds no room for one.
-use Rattle.std.proofs.Common.{◌≡◌, ◌≢◌, ℕ, ◌+◌, ◌-◌, ◌⊎◌, inl, inr, Bool, true, false, Option, Some, None, List, [], ◌∷◌, ◌++◌, length, slice_get, refl, sym, ap, subst, ◌∙◌, arith}
+use Rattle.std.proofs.Common.{◌≡◌, ◌≢◌, ℕ, zero, suc, ◌+◌, ◌-◌, ◌⊎◌, inl, inr, Bool, true, false, Option, Some, None, List, [], ◌∷◌, ◌++◌, length, slice_get, refl, sym, ap, subst, ◌∙◌, arith}
 use Rattle.std.proofs.lemmas.List.{length-append}
 use Rattle.std.proofs.lemmas.Option.{slice_get_within}
 use Rattle.pic_machine.specs.declared.birth.Birth.{Birth}
@@ -9,6 +9,7 @@ use Rattle.pic_machine.specs.declared.entry.Reply.{Reply}
 use Rattle.pic_machine.specs.declared.entry.Reply.TheVariants.{Full, Made}
 use Rattle.pic_machine.specs.Duty.{is_owing}
 use Rattle.pic_machine.specs.Happened.{Happened}
+use Rattle.pic_machine.specs.declared.world.Start.{Start}
 use Rattle.pic_machine.specs.State.{State, owed_of, world_at}
 use Rattle.pic_machine.specs.Step.{after, fork_reply, grown, has_room}
 use Rattle.pic_machine.specs.History.{Follows, IsLegal, MayMake, event, forked, world}
@@ -17,9 +18,8 @@ use Rattle.pic_machine.proofs.Fresh.{IsFresh}
 use Rattle.pic_machine.proofs.Histories.{IsLegal-push, world-push}
 use Rattle.pic_machine.proofs.Homes.{child_home}
 use Rattle.pic_machine.proofs.Owns.{unasked_free}
-use Rattle.pic_machine.proofs.Quiet.{IsQuiet-owed, IsQuiet-start}
-use Rattle.pic_machine.proofs.Steps.{slice_get-append_left}
-use Rattle.port_plain.specs.Shown.{IsAtHome, Shown, listed, made_of, origin_in, sight_of, with_entry}
+use Rattle.pic_machine.proofs.Lists.{slice_get-append_left}
+use Rattle.port_plain.specs.Shown.{IsAtHome, Shown, made_of, origin_in, sight_of, with_entry}
 use Rattle.port_plain.specs.Stored.{IsStored}
 use Rattle.port_plain.proofs.Places.{get-pushed}
 use Rattle.port_plain.proofs.Keeping.{elsewhere, entry_stored, still_home, stored_seen, world_seen}
@@ -57,6 +57,12 @@ no_room_many w room = rw room refl
 
 room_many : (w : State) → has_room w ≡ true → length (grown (has_room w) w.fibers Live) ≡ length w.fibers + 1
 room_many w room = rw room (length-append w.fibers (Live ∷ []))
+
+-- nobody owes anything at the start
+none_begins : (start : Start) (n : ℕ) → owed_of (world_at start) n ≡ []
+none_begins start zero = refl
+none_begins start (suc zero) = refl
+none_begins start (suc (suc n)) = refl
 
 -- whoever may fork owes nothing
 pub fork_free : {B S : Type 0} (seen : B → Carry S) (port now : Shown B) → port ≡ now → (f text value : ℕ) → MayMake (origin_in seen now) now.front f (Fork text value)
@@ -135,8 +141,8 @@ module _ {B S : Type 0} (seen : B → Carry S) (fits : B → List Happened → T
       module _ (number : (seen numbered).number ≡ Some n) (born : (seen numbered).birth ≡ (seen child).birth) (share : (seen numbered).share ≡ (seen child).share) (owes : (seen numbered).owes ≡ (seen child).owes) (fitting : fits numbered []) where
         child_there : IsAtHome seen fits (with_entry now h) n numbered
         child_there =
-            child_home seen fits (origin_in seen now) (seen now.main).share listed now.front f n birth numbered before.legal made_follows fresh_there (λ one. absurd (omega (arith, one, place_is, before.main))) not_mine
-            (IsQuiet-owed (world_at now.start) n (IsQuiet-start now.start)) number born (share ∙ fresh_child.share) (ap listed (owes ∙ fresh_child.owes)) fitting
+            child_home seen fits (origin_in seen now) (seen now.main).share now.front f n birth numbered before.legal made_follows fresh_there (λ one. absurd (omega (arith, one, place_is, before.main))) not_mine
+            (none_begins now.start n) number born (share ∙ fresh_child.share) (owes ∙ fresh_child.owes) fitting
 
         each_home : (place : ℕ) (body : B) → (slice_get bodies place ≡ Some (Some body)) ⊎ ((place ≡ length bodies) × (Some numbered ≡ Some body)) → IsAtHome seen fits (with_entry now h) (place + 1) body
         each_home place body (inl there) = still_home seen fits now h (place + 1) body legal (elsewhere seen fits bodies f place body (before.away f out) there) (before.home place body there)

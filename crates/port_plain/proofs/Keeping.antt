@@ -13,9 +13,10 @@ use Rattle.pic_machine.specs.History.{Follows, IsLegal, MayMake, world}
 use Rattle.pic_machine.specs.Sight.{Carry, fiber_of}
 use Rattle.pic_machine.proofs.Histories.{IsLegal-push, world-push}
 use Rattle.pic_machine.proofs.Homes.{home_stays}
-use Rattle.port_plain.specs.Shown.{IsAtHome, Shown, listed, marked, origin_in, with_entry}
+use Rattle.port_plain.specs.Shown.{IsAtHome, Shown, marked, origin_in, with_entry}
 use Rattle.port_plain.specs.Stored.{IsAway, IsStored}
-use Rattle.pic_machine.proofs.Steps.{length-fibers, slice_get-set_other, slice_get-set_same}
+use Rattle.pic_machine.proofs.Lists.{slice_get-set_other, slice_get-set_same}
+use Rattle.pic_machine.proofs.Steps.{length-fibers}
 use Rattle.port_plain.proofs.Steps.{allowed_now, event_follows}
 
 module _ {B S : Type 0} (seen : B → Carry S) (fits : B → List Happened → Type 0) where
@@ -28,7 +29,7 @@ module _ {B S : Type 0} (seen : B → Carry S) (fits : B → List Happened → T
 
   -- bodies at home stay there while another fiber makes an entry
   pub still_home : (port : Shown B) (h : Happened) (f : ℕ) (body : B) → IsLegal (origin_in seen port) (port.front ++ h ∷ []) → h.entry.fiber ≢ f → IsAtHome seen fits port f body → IsAtHome seen fits (with_entry port h) f body
-  still_home port h f body legal apart home = home_stays seen fits (origin_in seen port) (seen port.main).share listed listed port.front (h ∷ []) f body legal (apart, tt) refl home
+  still_home port h f body legal apart home = home_stays seen fits (origin_in seen port) (seen port.main).share port.front (h ∷ []) f body legal (apart, tt) home
 
   -- the fiber whose body is out made an entry, by a call that makes no fiber
   pub entry_stored : (port : Shown B) (w v : State) (bodies : List (Option B)) (ticking : B) (h : Happened) → IsStored seen fits port w bodies ticking → port.out ≡ Some h.entry.fiber

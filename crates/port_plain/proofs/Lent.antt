@@ -1,76 +1,156 @@
--- How what the port made shows as what the contract of ports asks.
-use Rattle.std.proofs.Common.{◌≡◌, ℕ, inr, Bool, true, false, Option, Some, None, List, [], ◌∷◌, ◌++◌, refl, sym, ap, subst, ◌∙◌, ◌&&◌, ◌==◌, append-nil, arith}
+-- How what the port made shows as what the contract of ports asks of a body that is lent.
+use Rattle.std.proofs.Common.{◌≡◌, ◌≢◌, ℕ, ◌-◌, ◌≤◌, inl, inr, nat_lt, Bool, true, false, Option, Some, None, List, [], ◌∷◌, ◌++◌, length, slice_get, refl, sym, ap, subst, ◌∙◌, append-nil, arith}
+use Rattle.std.proofs.lemmas.Option.{slice_get_within}
+use Rattle.pic_base.specs.declared.duty.Duty.{Duty}
 use Rattle.pic_machine.specs.declared.entry.Call.{Call}
-use Rattle.pic_machine.specs.declared.entry.Call.TheVariants.{Turn, Yield, Complete, Peek, Fork, Say, End}
+use Rattle.pic_machine.specs.declared.entry.Call.TheVariants as call
+use Rattle.pic_machine.specs.declared.entry.Call.TheVariants.{Attach, Complete, Fork, Look, NewPlace, NewTrigger, Peek, Say}
+use Rattle.pic_machine.specs.declared.entry.Entry.{Entry}
 use Rattle.pic_machine.specs.declared.entry.Reply.{Reply}
-use Rattle.pic_machine.specs.declared.entry.Reply.TheVariants as reply
-use Rattle.pic_machine.specs.declared.entry.Reply.TheVariants.{Plain}
+use Rattle.pic_machine.specs.declared.entry.Reply.TheVariants as answer
 use Rattle.pic_machine.specs.declared.port.PortFault.{PortFault}
 use Rattle.pic_machine.specs.declared.port.PortFault.TheVariants.{Full, Memory}
-use Rattle.pic_base.specs.declared.duty.Duty.{Duty}
-use Rattle.pic_machine.specs.Duty.{is_owing}
+use Rattle.pic_machine.specs.declared.state.FiberState.TheVariants.{Live}
+use Rattle.pic_machine.specs.Duty.{LeavesDuties, is_owing}
 use Rattle.pic_machine.specs.Happened.{Happened}
-use Rattle.pic_machine.specs.declared.birth.Birth.{Birth}
-use Rattle.pic_machine.specs.declared.world.Start.{Start}
 use Rattle.pic_machine.specs.State.{State, owed_of}
-use Rattle.pic_machine.specs.Step.{IsLive, MakesNoFiber, MayAct, after, reply_of}
-use Rattle.pic_machine.specs.History.{Follows, IsLegal, Origin, event, forked, happening, origin_of, world}
-use Rattle.pic_machine.specs.Log.{is_hidden, is_turn, log, visible}
+use Rattle.pic_machine.specs.Step.{MakesNoFiber, MayAct, after, made_below, reply_of}
+use Rattle.pic_machine.specs.History.{Follows, IsLegal, event, forked, happening, world}
+use Rattle.pic_machine.specs.Log.{is_hidden, is_turn, visible}
 use Rattle.pic_machine.specs.Sight.{CanMake, Carry, Holds, IsChild, Notes, fiber_of}
-use Rattle.pic_machine.specs.Lending.{Answered, Began, Called, FitsWith, Laid, Lent, Made, RefusesMaking, Spared}
-use Rattle.pic_machine.proofs.Histories.{log-push_hidden, world-push}
-use Rattle.pic_machine.proofs.Homes.{home_held, made_home}
+use Rattle.pic_machine.specs.Lending.{Answered, Began, Called, Lent, Made, RefusesMaking, Spared}
+use Rattle.pic_machine.proofs.Histories.{world-push}
 use Rattle.pic_machine.proofs.Onward.{Onward, onward_began, onward_lent, onward_made, spared_same}
-use Rattle.pic_machine.proofs.Owns.{IsUnasked, answered_free, can_free, turn_free, unasked_free}
-use Rattle.pic_machine.proofs.Quiet.{IsQuiet-after, IsQuiet-owed, IsQuiet-start, IsQuiet-world}
-use Rattle.pic_machine.proofs.Standing.{birth_stays}
-use Rattle.port_plain.specs.Shown.{IsAtHome, IsLast, IsLent, NoFiber, Shown, listed, marked, origin_in, sight_of, with_entry}
-use Rattle.pic_machine.proofs.Steps.{EndsNone, LeavesDuties, acts_own, owed_left}
+use Rattle.pic_machine.proofs.Owns.{IsUnasked, answered_free, can_free, unasked_free}
+use Rattle.pic_machine.proofs.Steps.{EndsNone, acts_own, owed_left}
+use Rattle.port_plain.specs.Shown.{IsLent, MakesThing, NoFiber, Settles, Shown, made_of, marked, origin_in, sight_of, with_entry}
 
 -- ---- which calls are which
 
 pub lent_no_fiber : (call : Call) → IsLent call → MakesNoFiber call
-lent_no_fiber (Complete c o) is = tt
-lent_no_fiber (Peek c) is = tt
-lent_no_fiber (Say v) is = tt
-lent_no_fiber _ is = absurd is
+lent_no_fiber (Fork text value) is = is
+lent_no_fiber _ is = tt
 
-pub lent_acts : (call : Call) → IsLent call → EndsNone call
-lent_acts (Complete c o) is = tt
-lent_acts (Peek c) is = tt
-lent_acts (Say v) is = tt
-lent_acts _ is = absurd is
+lent_acts : (call : Call) → IsLent call → EndsNone call
+lent_acts (call.Arm t action) is = is
+lent_acts (call.End o) is = is
+lent_acts _ is = tt
 
-pub lent_within : (call : Call) → IsLent call → is_turn call ≡ false
-lent_within (Complete c o) is = refl
-lent_within (Peek c) is = refl
-lent_within (Say v) is = refl
-lent_within _ is = absurd is
+lent_leaves : (call : Call) → IsLent call → LeavesDuties call
+lent_leaves (call.Signal t) is = is
+lent_leaves (Complete c o) is = is
+lent_leaves (Peek c) is = is
+lent_leaves _ is = tt
 
-pub lent_shown : (call : Call) (reply : Reply) → IsLent call → is_hidden call reply ≡ false
-lent_shown (Complete c o) reply is = refl
-lent_shown (Peek c) reply is = refl
+lent_within : (call : Call) → IsLent call → is_turn call ≡ false
+lent_within call.Turn is = absurd is
+lent_within _ is = refl
+
+lent_shown : (call : Call) (reply : Reply) → IsLent call → is_hidden call reply ≡ false
+lent_shown (Look t) reply is = refl
+lent_shown (Attach p c t) reply is = refl
 lent_shown (Say v) reply is = refl
 lent_shown _ reply is = absurd is
 
--- nobody owes anything, so a completion or a look changes nobody's duties; no other call does
-module _ (start : Start) (main : Birth) (front : List Happened) where
-  owes_none : (f : ℕ) → owed_of (world (origin_of start main) front) f ≡ []
-  owes_none f = IsQuiet-owed (world (origin_of start main) front) f (IsQuiet-world (origin_of start main) front (IsQuiet-start start))
+pub settles_no_fiber : (call : Call) → Settles call → MakesNoFiber call
+settles_no_fiber (Fork text value) is = is
+settles_no_fiber _ is = tt
 
-  still_none : (g : ℕ) (call : Call) (f : ℕ) → owed_of (after (world (origin_of start main) front) g call) f ≡ []
-  still_none g call f = IsQuiet-owed (after (world (origin_of start main) front) g call) f (IsQuiet-after (world (origin_of start main) front) g call (IsQuiet-world (origin_of start main) front (IsQuiet-start start)))
+settles_acts : (call : Call) → Settles call → EndsNone call
+settles_acts (call.Arm t action) is = is
+settles_acts (call.End o) is = is
+settles_acts _ is = tt
 
-  pub lent_owes : (g : ℕ) (call : Call) (f : ℕ) → IsLent call → owed_of (after (world (origin_of start main) front) g call) f ≡ owed_of (world (origin_of start main) front) f
-  lent_owes g (Say v) f is = refl
-  lent_owes g (Complete c o) f is = still_none g (Complete c o) f ∙ sym (owes_none f)
-  lent_owes g (Peek c) f is = still_none g (Peek c) f ∙ sym (owes_none f)
-  lent_owes g _ f is = absurd is
+settles_within : (call : Call) → Settles call → is_turn call ≡ false
+settles_within call.Turn is = absurd is
+settles_within _ is = refl
+
+settles_shown : (call : Call) (reply : Reply) → Settles call → is_hidden call reply ≡ false
+settles_shown (call.Signal t) reply is = refl
+settles_shown (Complete c o) reply is = refl
+settles_shown (Peek c) reply is = refl
+settles_shown _ reply is = absurd is
+
+pub thing_no_fiber : (call : Call) → MakesThing call → MakesNoFiber call
+thing_no_fiber (Fork text value) is = is
+thing_no_fiber _ is = tt
+
+thing_acts : (call : Call) → MakesThing call → EndsNone call
+thing_acts (call.Arm t action) is = is
+thing_acts (call.End o) is = is
+thing_acts _ is = tt
+
+thing_leaves : (call : Call) → MakesThing call → LeavesDuties call
+thing_leaves (call.Signal t) is = is
+thing_leaves (Complete c o) is = is
+thing_leaves (Peek c) is = is
+thing_leaves _ is = tt
+
+thing_unasked : (call : Call) → MakesThing call → IsUnasked call
+thing_unasked (Look t) is = is
+thing_unasked (call.Signal t) is = is
+thing_unasked (Complete c o) is = is
+thing_unasked (Peek c) is = is
+thing_unasked _ is = tt
+
+thing_within : (call : Call) → MakesThing call → is_turn call ≡ false
+thing_within call.Turn is = absurd is
+thing_within _ is = refl
+
+thing_hidden : (call : Call) (n : ℕ) → MakesThing call → is_hidden call (answer.Made n) ≡ true
+thing_hidden NewTrigger n is = refl
+thing_hidden NewPlace n is = refl
+thing_hidden _ n is = absurd is
+
+full_shown : (call : Call) → is_turn call ≡ false → is_hidden call answer.Full ≡ false
+full_shown NewTrigger within = refl
+full_shown NewPlace within = refl
+full_shown _ within = within
+
+-- ---- what is told of a thing that was made
+
+made_is : (reply : Reply) (n : ℕ) → Some n ≡ made_of reply → reply ≡ answer.Made n
+made_is (answer.Made m) n made = let same : Some n ≡ Some m = made in cc
+made_is _ n made = absurd (let none : Some n ≡ None = made in cc)
+
+below_full : (count limit : ℕ) (room : Bool) → nat_lt count limit ≡ room → None ≡ made_of (made_below count limit) → made_below count limit ≡ answer.Full
+below_full count limit true is none = absurd (let made : None ≡ Some count = none ∙ (rw is refl) in cc)
+below_full count limit false is none = rw is refl
+
+thing_full : (w : State) (f : ℕ) (call : Call) → MakesThing call → None ≡ made_of (reply_of w f call) → reply_of w f call ≡ answer.Full
+thing_full w f NewTrigger is none = below_full (length w.triggers) w.limits.triggers (nat_lt (length w.triggers) w.limits.triggers) refl none
+thing_full w f NewPlace is none = below_full w.places w.limits.places (nat_lt w.places w.limits.places) refl none
+thing_full w f _ is none = absurd is
 
 -- ---- the front
 
 pub fiber_is : {S : Type 0} (body : Carry S) (n : ℕ) → body.number ≡ Some n → fiber_of body ≡ n
 fiber_is body n number = ap (λ (m : Option ℕ). fiber_of (record body { number = m })) number
+
+-- whoever acts has a list of duties
+acts_within : (w : State) (f : ℕ) → MayAct w f → f ≤ length w.fibers
+acts_within w f (inl clock) = omega (arith, clock)
+acts_within w f (inr live) = let within = slice_get_within w.fibers (f - 1) Live live.live in omega (arith, within)
+
+-- these entries were noted in the body, and it owes this; all else but the room is as it was
+record Took {S : Type 0} (old new : Carry S) (es : List Entry) (duties : List Duty) : Type 0 where
+  birth : new.birth ≡ old.birth
+  number : new.number ≡ old.number
+  noted : new.noted ≡ old.noted ++ es
+  owes : new.owes ≡ duties
+  share : new.share ≡ old.share
+
+-- an entry that a report shows is noted as it stands
+took_shown : {S : Type 0} (a b : Carry S) (h : Happened) (duties : List Duty) → is_hidden h.entry.call h.entry.reply ≡ false → Notes a b (h.entry ∷ []) → a.owes ≡ duties → Took a b (visible (h ∷ [])) duties
+took_shown a b h duties shown notes owes =
+    let one : visible (h ∷ []) ≡ h.entry ∷ [] = rw shown refl in
+    record { birth = notes.birth; number = notes.number; noted = notes.noted ∙ ap (λ (es : List Entry). a.noted ++ es) (sym one); owes = notes.owes ∙ owes; share = notes.share }
+
+-- and another isn't noted
+took_hidden : {S : Type 0} (a : Carry S) (h : Happened) (duties : List Duty) → is_hidden h.entry.call h.entry.reply ≡ true → a.owes ≡ duties → Took a a (visible (h ∷ [])) duties
+took_hidden a h duties hidden owes =
+    let none : visible (h ∷ []) ≡ [] = rw hidden refl in
+    record { birth = refl; number = refl; noted = sym (append-nil a.noted) ∙ ap (λ (es : List Entry). a.noted ++ es) (sym none); owes = owes; share = refl }
 
 module _ {B S : Type 0} (seen : B → Carry S) (port : Shown B) (h : Happened) (legal : IsLegal (origin_in seen port) port.front) (follows : Follows (origin_in seen port) port.front h) where
   -- the front grew by this entry, whatever is out then
@@ -93,26 +173,13 @@ module _ {B S : Type 0} (seen : B → Carry S) (port : Shown B) (h : Happened) (
   pub front_began : (out : Option ℕ) → Began (sight_of seen port) (sight_of seen (record (with_entry port h) { out = out })) h
   front_began out = onward_began (sight_of seen port) (sight_of seen (record (with_entry port h) { out = out })) [] h (onward out)
 
-  -- the body whose fiber made it, and in which it was noted; the call changed nothing of what the fiber owes
-  pub lent : (a b : Carry S) → Holds (sight_of seen port) a → h.entry.fiber ≡ fiber_of a → is_turn h.entry.call ≡ false → EndsNone h.entry.call
-      → owed_of (after (world (origin_in seen port) port.front) h.entry.fiber h.entry.call) (fiber_of a) ≡ owed_of (world (origin_in seen port) port.front) (fiber_of a)
-      → Notes a b (visible (h ∷ [])) → Lent (sight_of seen port) (sight_of seen (with_entry port h)) a b h
-  lent a b holds mine within acts same notes =
-      let w = world (origin_in seen port) port.front in
-      let there : after w h.entry.fiber h.entry.call ≡ world (origin_in seen port) (port.front ++ h ∷ []) = sym (world-push (origin_in seen port) port.front h) in
-      let owes : listed b.owes ≡ owed_of (world (origin_in seen port) (port.front ++ h ∷ [])) (fiber_of a) = ap listed notes.owes ∙ (holds.owes ∙ (sym same ∙ ap (λ (v : State). owed_of v (fiber_of a)) there)) in
-      let stays : MayAct (after w h.entry.fiber h.entry.call) (fiber_of a) =
-      subst (λ (f : ℕ). MayAct (after w f h.entry.call) (fiber_of a)) (sym mine) (acts_own w (fiber_of a) h.entry.call acts holds.acts) in
-      onward_lent (sight_of seen port) (sight_of seen (with_entry port h)) a b [] h (onward port.out) tt holds refl mine within notes.birth notes.number notes.noted notes.share
-      owes (subst (λ (v : State). MayAct v (fiber_of a)) there stays)
-
--- an entry that a report shows is noted as it stands
-shown_notes : {S : Type 0} (a b : Carry S) (h : Happened) → is_hidden h.entry.call h.entry.reply ≡ false → Notes a b (h.entry ∷ []) → Notes a b (visible (h ∷ []))
-shown_notes a b h shown notes = let one : visible (h ∷ []) ≡ h.entry ∷ [] = rw shown refl in subst (Notes a b) (sym one) notes
-
--- a call that leaves the duties
-owes_pushed : (origin : Origin) (front : List Happened) (h : Happened) (f : ℕ) → LeavesDuties h.entry.call → owed_of (world origin (front ++ h ∷ [])) f ≡ owed_of (world origin front) f
-owes_pushed origin front h f leaves = ap (λ (w : State). owed_of w f) (world-push origin front h) ∙ owed_left (world origin front) h.entry.fiber h.entry.call f leaves
+  -- the body whose fiber made it, and which took it and owes what is left
+  lent : (a b : Carry S) → Holds (sight_of seen port) a → h.entry.fiber ≡ fiber_of a → is_turn h.entry.call ≡ false → MayAct (after (world (origin_in seen port) port.front) h.entry.fiber h.entry.call) (fiber_of a)
+      → Took a b (visible (h ∷ [])) (owed_of (after (world (origin_in seen port) port.front) h.entry.fiber h.entry.call) (fiber_of a)) → Lent (sight_of seen port) (sight_of seen (with_entry port h)) a b h
+  lent a b holds mine within acts took =
+      let there : after (world (origin_in seen port) port.front) h.entry.fiber h.entry.call ≡ world (origin_in seen port) (port.front ++ h ∷ []) = sym (world-push (origin_in seen port) port.front h) in
+      onward_lent (sight_of seen port) (sight_of seen (with_entry port h)) a b [] h (onward port.out) tt holds refl mine within took.birth took.number took.noted took.share
+      (took.owes ∙ ap (λ (v : State). owed_of v (fiber_of a)) there) (subst (λ (v : State). MayAct v (fiber_of a)) there acts)
 
 -- ---- nothing happened
 
@@ -120,165 +187,132 @@ module _ {B S : Type 0} (seen : B → Carry S) (port : Shown B) where
   pub refused : (new : Shown B) (a : Carry S) → new ≡ port → Holds (sight_of seen port) a → Spared (sight_of seen port) (sight_of seen new) a a
   refused new a same holds = subst (λ (q : Shown B). Spared (sight_of seen port) (sight_of seen q) a a) (sym same) (spared_same (sight_of seen port) a holds)
 
--- ---- the calls that a body is lent for
+-- ---- a call of a body that is out, which makes no fiber
 
-module _ {B S : Type 0} (seen : B → Carry S) (port new : Shown B) (owing : Bool) (f : ℕ) (call : Call) (reply : Reply) (made : new ≡ with_entry port (happening owing f call reply)) (follows : Follows (origin_in seen port) port.front (happening owing f call reply)) where
-  lent_for : (a b : Carry S) → Holds (sight_of seen port) a → a.number ≡ Some f → EndsNone call → is_turn call ≡ false → is_hidden call reply ≡ false
-      → owed_of (after (world (origin_in seen port) port.front) f call) (fiber_of a) ≡ owed_of (world (origin_in seen port) port.front) (fiber_of a)
-      → Notes a b ((happening owing (fiber_of a) call reply).entry ∷ []) → Lent (sight_of seen port) (sight_of seen new) a b (happening owing (fiber_of a) call reply)
-  lent_for a b holds number acts within shown same notes =
-      let is : fiber_of a ≡ f = fiber_is a f number in
-      subst (λ (q : Shown B). Lent (sight_of seen port) (sight_of seen q) a b (happening owing (fiber_of a) call reply)) (sym made)
-      (subst (λ (n : ℕ). Lent (sight_of seen port) (sight_of seen (with_entry port (happening owing f call reply))) a b (happening owing n call reply)) (sym is)
-      (lent seen port (happening owing f call reply) holds.legal follows a b holds (sym is) within acts same (shown_notes a b (happening owing f call reply) shown (rw (sym is) notes))))
+module _ {B S : Type 0} (seen : B → Carry S) (port new : Shown B) (a : Carry S) (holds : Holds (sight_of seen port) a) (f : ℕ) (number : a.number ≡ Some f) where
+  -- the fiber has a list of duties
+  pub fiber_within : f ≤ length (world (origin_in seen port) port.front).fibers
+  fiber_within = subst (λ (n : ℕ). n ≤ length (world (origin_in seen port) port.front).fibers) (fiber_is a f number) (acts_within (world (origin_in seen port) port.front) (fiber_of a) holds.acts)
 
--- the body owes what its fiber owes, so the entry has the mark that it tells
-module _ {B S : Type 0} (seen : B → Carry S) (port new : Shown B) (f : ℕ) (call : Call) (reply : Reply) (made : new ≡ with_entry port (marked seen port f call reply)) (follows : Follows (origin_in seen port) port.front (marked seen port f call reply)) where
-  pub lent_answered : (a b : Carry S) → Holds (sight_of seen port) a → a.number ≡ Some f → IsLent call → Notes a b ((event (fiber_of a) call reply).entry ∷ []) → Answered (sight_of seen port) (sight_of seen new) a b call reply
-  lent_answered a b holds number is notes =
-      let w : State = world (origin_in seen port) port.front in
-      let owes : owed_of w f ≡ listed a.owes = sym (holds.owes ∙ ap (owed_of w) (fiber_is a f number)) in
-      subst (λ (duties : List Duty). Lent (sight_of seen port) (sight_of seen new) a b (happening (is_owing duties call) (fiber_of a) call reply)) owes
-      (lent_for seen port new (is_owing (owed_of w f) call) f call reply made follows a b holds number (lent_acts call is) (lent_within call is) (lent_shown call reply is)
-      (lent_owes port.start (seen port.main).birth port.front f call (fiber_of a) is) notes)
+  -- what the port found is what the body owes
+  pub owes_there : owed_of (world (origin_in seen port) port.front) f ≡ a.owes
+  owes_there = sym (holds.owes ∙ ap (owed_of (world (origin_in seen port) port.front)) (fiber_is a f number))
+
+  module _ (call : Call) (reply : Reply) (made : new ≡ with_entry port (marked seen port f call reply)) (follows : Follows (origin_in seen port) port.front (marked seen port f call reply)) where
+    abbrev w : State
+    w = world (origin_in seen port) port.front
+
+    abbrev h : Happened
+    h = happening (is_owing a.owes call) (fiber_of a) call reply
+
+    is_h : marked seen port f call reply ≡ h
+    is_h = ap (λ (duties : List Duty). happening (is_owing duties call) f call reply) owes_there ∙ ap (λ (n : ℕ). happening (is_owing a.owes call) n call reply) (sym (fiber_is a f number))
+
+    h_made : new ≡ with_entry port h
+    h_made = made ∙ ap (with_entry port) is_h
+
+    h_follows : Follows (origin_in seen port) port.front h
+    h_follows = subst (Follows (origin_in seen port) port.front) is_h follows
+
+    world_then : world (origin_in seen new) new.front ≡ after w (fiber_of a) call
+    world_then = ap (λ (q : Shown B). world (origin_in seen q) q.front) h_made ∙ world-push (origin_in seen port) port.front h
+
+    answered : (b : Carry S) → is_turn call ≡ false → MayAct (after w (fiber_of a) call) (fiber_of a) → Took a b (visible (h ∷ [])) (owed_of (after w (fiber_of a) call) (fiber_of a)) → Answered (sight_of seen port) (sight_of seen new) a b call reply
+    answered b within acts took =
+        subst (λ (q : Shown B). Lent (sight_of seen port) (sight_of seen q) a b h) (sym h_made) (lent seen port h holds.legal h_follows a b holds refl within acts took)
+
+    left_alone : LeavesDuties call → a.owes ≡ owed_of (after w (fiber_of a) call) (fiber_of a)
+    left_alone leaves = holds.owes ∙ sym (owed_left w (fiber_of a) call (fiber_of a) leaves)
+
+    -- the entry has no mark where no duty asks for the call
+    pub free : IsUnasked call → is_owing a.owes call ≡ false
+    free unasked = ap (λ (duties : List Duty). is_owing duties call) holds.owes ∙ unasked_free (owed_of w (fiber_of a)) call unasked h_follows.may.allowed.duties
+
+    pub unmarked : IsUnasked call → marked seen port f call reply ≡ event (fiber_of a) call reply
+    unmarked unasked = is_h ∙ ap (λ (owing : Bool). happening owing (fiber_of a) call reply) (free unasked)
+
+    -- a call that leaves the duties, and that a report shows
+    pub lent_answered : (b : Carry S) → IsLent call → Notes a b ((event (fiber_of a) call reply).entry ∷ []) → Answered (sight_of seen port) (sight_of seen new) a b call reply
+    lent_answered b is notes =
+        answered b (lent_within call is) (acts_own w (fiber_of a) call (lent_acts call is) holds.acts)
+        (took_shown a b h (owed_of (after w (fiber_of a) call) (fiber_of a)) (lent_shown call reply is) notes (left_alone (lent_leaves call is)))
+
+    -- a call that no duty asks for, and that a report shows with this reply
+    pub called_then : (b : Carry S) (told : Reply) → reply ≡ told → IsUnasked call → LeavesDuties call → is_turn call ≡ false → is_hidden call told ≡ false → MayAct (after w (fiber_of a) call) (fiber_of a)
+        → Notes a b ((event (fiber_of a) call reply).entry ∷ []) → Called (sight_of seen port) (sight_of seen new) a b call told
+    called_then b told is unasked leaves within shown acts notes =
+        let found : Answered (sight_of seen port) (sight_of seen new) a b call reply =
+        answered b within acts (took_shown a b h (owed_of (after w (fiber_of a) call) (fiber_of a)) (rw is shown) notes (left_alone leaves)) in
+        answered_free (sight_of seen port) (sight_of seen new) a b call told (free unasked) (subst (λ (r : Reply). Answered (sight_of seen port) (sight_of seen new) a b call r) is found)
+
+    -- a call that a duty asks for
+    module _ (settles : Settles call) where
+      acts_still : MayAct (after w (fiber_of a) call) (fiber_of a)
+      acts_still = acts_own w (fiber_of a) call (settles_acts call settles) holds.acts
+
+      pub settled_within : f ≤ length (world (origin_in seen new) new.front).fibers
+      settled_within =
+          rw world_then (subst (λ (n : ℕ). n ≤ length (after w (fiber_of a) call).fibers) (fiber_is a f number) (acts_within (after w (fiber_of a) call) (fiber_of a) acts_still))
+
+      pub settled_answered : (noted b : Carry S) (duties : List Duty) → Notes a noted ((event (fiber_of a) call reply).entry ∷ []) → b ≡ record noted { owes = duties } → duties ≡ owed_of (world (origin_in seen new) new.front) f
+          → Answered (sight_of seen port) (sight_of seen new) a b call reply
+      settled_answered noted b duties notes is owed =
+          let shown : Took a noted (visible (h ∷ [])) a.owes = took_shown a noted h a.owes (settles_shown call reply settles) notes refl in
+          let left : duties ≡ owed_of (after w (fiber_of a) call) (fiber_of a) = owed ∙ (ap (λ (v : State). owed_of v f) world_then ∙ ap (owed_of (after w (fiber_of a) call)) (sym (fiber_is a f number))) in
+          answered b (settles_within call settles) acts_still (rw is (record { birth = shown.birth; number = shown.number; noted = shown.noted; owes = left; share = shown.share }))
+
+    -- a call that makes a thing
+    module _ (makes : MakesThing call) where
+      thing_still : MayAct (after w (fiber_of a) call) (fiber_of a)
+      thing_still = acts_own w (fiber_of a) call (thing_acts call makes) holds.acts
+
+      pub thing_called : (n : ℕ) → Some n ≡ made_of reply → Called (sight_of seen port) (sight_of seen new) a a call (answer.Made n)
+      thing_called n told =
+          let is : reply ≡ answer.Made n = made_is reply n told in
+          answered_free (sight_of seen port) (sight_of seen new) a a call (answer.Made n) (free (thing_unasked call makes))
+          (subst (λ (r : Reply). Answered (sight_of seen port) (sight_of seen new) a a call r) is
+          (answered a (thing_within call makes) thing_still
+          (took_hidden a h (owed_of (after w (fiber_of a) call) (fiber_of a)) (rw is (thing_hidden call n makes)) (left_alone (thing_leaves call makes)))))
+
+      pub thing_refused : (b : Carry S) → None ≡ made_of reply → Notes a b ((event (fiber_of a) call reply).entry ∷ []) → RefusesMaking Full (sight_of seen port) (sight_of seen new) a b call
+      thing_refused b none notes =
+          let is : reply ≡ answer.Full = h_follows.reply ∙ thing_full w (fiber_of a) call makes (none ∙ ap made_of h_follows.reply) in
+          called_then b answer.Full is (thing_unasked call makes) (thing_leaves call makes) (thing_within call makes) (full_shown call (thing_within call makes)) thing_still notes
 
 -- no duty asks for what is said
 pub said : {B S : Type 0} (seen : B → Carry S) (port new : Shown B) (a b : Carry S) (value : ℕ) (reply : Reply) → CanMake (sight_of seen port) a (Say value) → reply ≡ reply_of (world (origin_in seen port) port.front) (fiber_of a) (Say value)
-    → Answered (sight_of seen port) (sight_of seen new) a b (Say value) reply → Called (sight_of seen port) (sight_of seen new) a b (Say value) Plain
-said seen port new a b value reply can is answered =
-    answered_free (sight_of seen port) (sight_of seen new) a b (Say value) Plain (can_free (sight_of seen port) a (Say value) can tt)
-    (subst (λ (r : Reply). Answered (sight_of seen port) (sight_of seen new) a b (Say value) r) is answered)
-
--- ---- the calls with which a turn is over
-
-pub last_plain : (w : State) (f : ℕ) (call : Call) → IsLast call → reply_of w f call ≡ Plain
-last_plain w f Yield is = refl
-last_plain w f (End o) is = refl
-last_plain w f _ is = absurd is
-
-last_leaves : (call : Call) → IsLast call → LeavesDuties call
-last_leaves Yield is = tt
-last_leaves (End o) is = tt
-last_leaves _ is = absurd is
-
-last_unasked : (call : Call) → IsLast call → IsUnasked call
-last_unasked Yield is = tt
-last_unasked (End o) is = tt
-last_unasked _ is = absurd is
-
-pub last_within : (call : Call) → IsLast call → is_turn call ≡ false
-last_within Yield is = refl
-last_within (End o) is = refl
-last_within _ is = absurd is
-
-module _ {B S : Type 0} (seen : B → Carry S) (fits : B → List Happened → Type 0) (same_rest : B → B → Type 0) (port new : Shown B) (f : ℕ) (call : Call) (reply : Reply) (last : IsLast call) (made : new ≡ with_entry port (marked seen port f call reply))
-    (follows : Follows (origin_in seen port) port.front (marked seen port f call reply)) (body : B) (holds : Holds (sight_of seen port) (seen body)) (number : (seen body).number ≡ Some f) where
-  abbrev h : Happened
-  h = event (fiber_of (seen body)) call Plain
-
-  is_plain : reply ≡ Plain
-  is_plain = follows.reply ∙ last_plain (world (origin_in seen port) port.front) f call last
-
-  is_h : marked seen port f call reply ≡ h
-  is_h =
-      ap (λ (owing : Bool). happening owing f call reply) (unasked_free (owed_of (world (origin_in seen port) port.front) f) call (last_unasked call last) follows.may.allowed.duties)
-      ∙ (ap (λ (r : Reply). event f call r) is_plain ∙ ap (λ (n : ℕ). event n call Plain) (sym (fiber_is (seen body) f number)))
-
-  h_made : new ≡ with_entry port h
-  h_made = made ∙ ap (with_entry port) is_h
-
-  h_follows : Follows (origin_in seen port) port.front h
-  h_follows = subst (Follows (origin_in seen port) port.front) is_h follows
-
-  pub finished : (later : Shown B) → later ≡ record new { out = None } → Made (sight_of seen port) (sight_of seen later) (event (fiber_of (seen body)) call Plain)
-  finished later is =
-      subst (λ (q : Shown B). Made (sight_of seen port) (sight_of seen q) h) (sym (is ∙ ap (λ (q : Shown B). record q { out = None }) h_made))
-      (front_made seen port h holds.legal h_follows None)
-
-  -- the body comes home with the entry
-  pub finished_home : (noted : B) → Notes (seen body) (seen noted) ((event (fiber_of (seen body)) call reply).entry ∷ []) → same_rest body noted → FitsWith seen same_rest fits body (log port.front (fiber_of (seen body))) h → IsAtHome seen fits new (fiber_of (seen noted)) noted
-  finished_home noted notes rest fitting =
-      let g : ℕ = fiber_of (seen body) in
-      let same : fiber_of (seen noted) ≡ g = ap (λ (m : Option ℕ). fiber_of (record (seen body) { number = m })) notes.number in
-      let noted_h : Notes (seen body) (seen noted) (h.entry ∷ []) = subst (λ (r : Reply). Notes (seen body) (seen noted) ((event g call r).entry ∷ [])) is_plain notes in
-      let owes : listed (seen noted).owes ≡ owed_of (world (origin_in seen port) (port.front ++ h ∷ [])) g =
-      ap listed notes.owes ∙ (holds.owes ∙ sym (owes_pushed (origin_in seen port) port.front h g (last_leaves call last))) in
-      let home : IsAtHome seen fits (with_entry port h) g noted =
-      made_home seen fits (sight_of seen port) (sight_of seen (with_entry port h)) (seen body) h g noted holds refl (front_made seen port h holds.legal h_follows port.out) refl (last_within call last) notes.number notes.birth notes.share
-      (fitting noted noted_h rest) owes in
-      subst (λ (q : Shown B). IsAtHome seen fits q (fiber_of (seen noted)) noted) (sym h_made) (subst (λ (n : ℕ). IsAtHome seen fits (with_entry port h) n noted) (sym same) home)
+    → Answered (sight_of seen port) (sight_of seen new) a b (Say value) reply → Called (sight_of seen port) (sight_of seen new) a b (Say value) answer.Plain
+said seen port new a b value reply can is found =
+    answered_free (sight_of seen port) (sight_of seen new) a b (Say value) answer.Plain (can_free (sight_of seen port) a (Say value) can tt)
+    (subst (λ (r : Reply). Answered (sight_of seen port) (sight_of seen new) a b (Say value) r) is found)
 
 -- ---- a fork
 
 module _ {B S : Type 0} (seen : B → Carry S) (port new : Shown B) (f text value : ℕ) (a b : Carry S) (holds : Holds (sight_of seen port) a) (number : a.number ≡ Some f) where
+  -- the fork's entry was made, whatever it says
+  fork_made : (h : Happened) → new ≡ with_entry port h → Follows (origin_in seen port) port.front h → h.entry.fiber ≡ fiber_of a → h.entry.call ≡ Fork text value
+      → is_hidden h.entry.call h.entry.reply ≡ false → Notes a b (h.entry ∷ []) → Lent (sight_of seen port) (sight_of seen new) a b h
+  fork_made h made follows mine forks shown notes =
+      let w : State = world (origin_in seen port) port.front in
+      subst (λ (q : Shown B). Lent (sight_of seen port) (sight_of seen q) a b h) (sym made)
+      (lent seen port h holds.legal follows a b holds mine (rw forks refl)
+      (rw (mine, forks) (acts_own w (fiber_of a) (Fork text value) tt holds.acts))
+      (took_shown a b h (owed_of (after w h.entry.fiber h.entry.call) (fiber_of a)) shown notes
+      (rw forks (holds.owes ∙ sym (owed_left w h.entry.fiber (Fork text value) (fiber_of a) tt)))))
+
   pub fork_lent : (n : ℕ) (child : Carry S) → IsChild (sight_of seen port) child text value → new ≡ with_entry port (forked f n child.birth) → Follows (origin_in seen port) port.front (forked f n child.birth)
-      → Notes a b (record { fiber = fiber_of a; call = Fork text value; reply = reply.Made n } ∷ []) → Lent (sight_of seen port) (sight_of seen new) a b (forked (fiber_of a) n child.birth)
+      → Notes a b (record { fiber = fiber_of a; call = Fork text value; reply = answer.Made n } ∷ []) → Lent (sight_of seen port) (sight_of seen new) a b (forked (fiber_of a) n child.birth)
   fork_lent n child is_child made follows notes =
       let is : fiber_of a ≡ f = fiber_is a f number in
-      let noted : Notes a b ((forked f n child.birth).entry ∷ []) = rw (sym is, is_child.same_text, is_child.same_value) notes in
-      subst (λ (q : Shown B). Lent (sight_of seen port) (sight_of seen q) a b (forked (fiber_of a) n child.birth)) (sym made)
-      (subst (λ (m : ℕ). Lent (sight_of seen port) (sight_of seen (with_entry port (forked f n child.birth))) a b (forked m n child.birth)) (sym is)
-      (lent seen port (forked f n child.birth) holds.legal follows a b holds (sym is) refl tt
-      (owed_left (world (origin_in seen port) port.front) f (Fork child.birth.text child.birth.value) (fiber_of a) tt) (shown_notes a b (forked f n child.birth) refl noted)))
+      let here : forked f n child.birth ≡ forked (fiber_of a) n child.birth = ap (λ (m : ℕ). forked m n child.birth) (sym is) in
+      fork_made (forked (fiber_of a) n child.birth) (made ∙ ap (with_entry port) here) (subst (Follows (origin_in seen port) port.front) here follows) refl
+      (rw (is_child.same_text, is_child.same_value) refl) refl (rw (is_child.same_text, is_child.same_value) notes)
 
-  pub fork_full : (fault : PortFault) → fault ≡ Full → NoFiber seen fault port new f (Fork text value) → Notes a b (record { fiber = fiber_of a; call = Fork text value; reply = reply.Full } ∷ []) → RefusesMaking Full (sight_of seen port) (sight_of seen new) a b (Fork text value)
+  pub fork_full : (fault : PortFault) → fault ≡ Full → NoFiber seen fault port new f (Fork text value) → Notes a b (record { fiber = fiber_of a; call = Fork text value; reply = answer.Full } ∷ []) → RefusesMaking Full (sight_of seen port) (sight_of seen new) a b (Fork text value)
   fork_full fault is none notes =
       let full : NoFiber seen Full port new f (Fork text value) = subst (λ (x : PortFault). NoFiber seen x port new f (Fork text value)) is none in
-      lent_for seen port new false f (Fork text value) reply.Full full.0 full.1 a b holds number tt refl refl (owed_left (world (origin_in seen port) port.front) f (Fork text value) (fiber_of a) tt) notes
+      let here : event f (Fork text value) answer.Full ≡ event (fiber_of a) (Fork text value) answer.Full = ap (λ (m : ℕ). event m (Fork text value) answer.Full) (sym (fiber_is a f number)) in
+      fork_made (event (fiber_of a) (Fork text value) answer.Full) (full.0 ∙ ap (with_entry port) here) (subst (Follows (origin_in seen port) port.front) here full.1) refl refl refl notes
 
 pub fork_none : {B S : Type 0} (seen : B → Carry S) (port new : Shown B) (f : ℕ) (call : Call) (fault : PortFault) → fault ≡ Memory → NoFiber seen fault port new f call → new ≡ port
 fork_none seen port new f call fault is none = subst (λ (x : PortFault). NoFiber seen x port new f call) is none
-
--- ---- a body that goes out, or comes home as it was
-
-never_both : (b : Bool) → (b && false) ≡ false
-never_both true = refl
-never_both false = refl
-
-module _ {B S : Type 0} (seen : B → Carry S) (fits : B → List Happened → Type 0) (port : Shown B) (f : ℕ) where
-  abbrev turn : Happened
-  turn = event f Turn Plain
-
-  module _ (taken new : Shown B) (reply : Reply) (out : taken ≡ record port { out = Some f }) (made : new ≡ with_entry taken (marked seen taken f Turn reply)) (legal : IsLegal (origin_in seen taken) taken.front) (follows : Follows (origin_in seen taken) taken.front (marked seen taken f Turn reply)) where
-    is_turn_of : marked seen taken f Turn reply ≡ turn
-    is_turn_of =
-        let plain : reply ≡ Plain = follows.reply in
-        ap (λ (owing : Bool). happening owing f Turn reply) (turn_free (owed_of (world (origin_in seen taken) taken.front) f)) ∙ ap (λ (r : Reply). event f Turn r) plain
-
-    is_turned : new ≡ record (with_entry port turn) { out = Some f }
-    is_turned = made ∙ (ap (with_entry taken) is_turn_of ∙ ap (λ (q : Shown B). with_entry q turn) out)
-
-    turn_follows : Follows (origin_in seen port) port.front turn
-    turn_follows = subst (λ (q : Shown B). Follows (origin_in seen q) q.front turn) out (subst (Follows (origin_in seen taken) taken.front) is_turn_of follows)
-
-    legal_before : IsLegal (origin_in seen port) port.front
-    legal_before = subst (λ (q : Shown B). IsLegal (origin_in seen q) q.front) out legal
-
-    pub claim_began : Began (sight_of seen port) (sight_of seen new) (event f Turn Plain)
-    claim_began = subst (λ (q : Shown B). Began (sight_of seen port) (sight_of seen q) turn) (sym is_turned) (front_began seen port turn legal_before turn_follows (Some f))
-
-    -- a body at home stays as it is while a turn of its fiber begins
-    turned_home : (body : B) → IsAtHome seen fits port f body → IsAtHome seen fits (record (with_entry port turn) { out = Some f }) f body
-    turned_home body home = record {
-      stands = record {
-        number = home.stands.number;
-        fitting = subst (fits body) (sym (log-push_hidden port.front turn f (never_both (f == f)))) home.stands.fitting;
-        birth = λ fiber. birth_stays (origin_in seen port) port.front (turn ∷ []) f (seen body).birth (home.stands.birth fiber);
-        share = home.stands.share;
-      };
-      owes = home.owes ∙ sym (owes_pushed (origin_in seen port) port.front turn f tt);
-    }
-
-    pub claim_held : ((body : B) (zs : List Happened) → fits body zs → (seen body).noted ≡ visible zs) → (body : B) → IsAtHome seen fits port f body → IsLive (world (origin_in seen port) port.front) f
-        → Holds (sight_of seen new) (seen body) × (fiber_of (seen body) ≡ f) × fits body (log new.front f)
-    claim_held shows body home live =
-        let there = turned_home body home in
-        let q : Shown B = record (with_entry port turn) { out = Some f } in
-        let acts : MayAct (world (origin_in seen q) q.front) f = subst (λ (w : State). MayAct w f) (sym (world-push (origin_in seen port) port.front turn)) (acts_own (world (origin_in seen port) port.front) f Turn tt (inr live)) in
-        let held = home_held seen fits (sight_of seen q) f body there (front_began seen port turn legal_before turn_follows (Some f)).legal refl acts (shows body (log q.front f) there.stands.fitting) in
-        subst (λ (r : Shown B). Holds (sight_of seen r) (seen body) × (fiber_of (seen body) ≡ f) × fits body (log r.front f)) (sym is_turned) (held.0, held.1, there.stands.fitting)
-
-  pub laid_back : (new : Shown B) → new ≡ record port { out = None } → IsLegal (origin_in seen port) port.front → Laid (sight_of seen port) (sight_of seen new) f
-  laid_back new is legal =
-      subst (λ (q : Shown B). Laid (sight_of seen port) (sight_of seen q) f) (sym is)
-      (record { grown = record { others = []; none = λ alone. refl; later = record { board = refl; origin = refl; share = refl; alone = refl; front = sym (append-nil port.front); steady = omega arith }; legal = legal }; not_mine = tt; calm = refl })

@@ -4,6 +4,8 @@ pub mod Beginning
 pub mod Steps
 pub mod Keeping
 pub mod Lent
+pub mod Turns
 pub mod Forking
 pub mod Unloading
 pub mod Alone
+pub mod Handing

@@ -7,6 +7,6 @@ use Rattle.pic_machine.specs.Sight.{Carry, Sight}
 
 -- each body owes what its fiber owes, and the clock's has room for an entry
 pub record OwesAsLeft {B S : Type 0} (seen : B → Carry S) (port : Sight S) (closed : Closed B) : Type 0 where
-  pub bodies : (place : ℕ) (body : B) → slice_get closed.bodies.items place ≡ Some body → port.duties (seen body).owes ≡ owed_of (world port.origin port.front) (place + 1)
-  pub clock : port.duties (seen closed.clock).owes ≡ owed_of (world port.origin port.front) 0
+  pub bodies : (place : ℕ) (body : B) → slice_get closed.bodies.items place ≡ Some body → (seen body).owes ≡ owed_of (world port.origin port.front) (place + 1)
+  pub clock : (seen closed.clock).owes ≡ owed_of (world port.origin port.front) 0
   pub room : 0 < (seen closed.clock).room

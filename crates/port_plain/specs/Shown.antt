@@ -1,8 +1,5 @@
 -- What contracts see of the port, and the sight that it gives of the machine.
-use Rattle.std.specs.Prelude.{◌≡◌, ℕ, ◌<◌, ⊤, true, Option, Some, None, List, [], ◌∷◌, ◌++◌, filter_map, map}
-use Rattle.std.specs.List.{flat_map}
-use Rattle.pic_base.specs.declared.duty.Duty.{Duty}
-use Rattle.pic_base.specs.declared.duty.Duty.TheVariants.{Signal}
+use Rattle.std.specs.Prelude.{◌≡◌, ℕ, ◌<◌, ⊤, true, Option, Some, None, List, [], ◌∷◌, ◌++◌, filter_map}
 use Rattle.pic_machine.specs.declared.birth.Birth.{Birth}
 use Rattle.pic_machine.specs.declared.entry.Call.{Call}
 use Rattle.pic_machine.specs.declared.entry.Call.TheVariants as call
@@ -15,8 +12,7 @@ use Rattle.pic_machine.specs.declared.port.PortFault.TheVariants.{Full, Again, M
 use Rattle.pic_machine.specs.History.{Follows, Origin, event, happening, origin_of, world}
 use Rattle.pic_machine.specs.Duty.{is_owing}
 use Rattle.pic_machine.specs.Home.{IsHome}
-use Rattle.pic_machine.specs.Sight.{Carry, Owing, Sight, Walking, nothing}
-use Rattle.pic_machine.specs.Sight.Walking.{triggers}
+use Rattle.pic_machine.specs.Sight.{Carry, Sight}
 use Rattle.pic_machine.specs.State.{owed_of}
 
 -- the start, main's body as it was given, the history so far, and the fiber whose body is out
@@ -34,20 +30,6 @@ origin_in seen port = origin_of port.start (seen port.main).birth
 abbrev pub births_in : List Happened → List Birth
 births_in hs = filter_map (λ h. h.birth) hs
 
--- ---- duties
-
--- the duties of a walk: to signal each of its triggers
-abbrev pub walked : Walking → List Duty
-walked (triggers numbers) = map Signal numbers
-
-abbrev pub first_duty : Option Duty → List Duty
-first_duty None = []
-first_duty (Some duty) = duty ∷ []
-
--- a body's duties, one by one: its walks stand for themselves
-abbrev pub listed : Owing → List Duty
-listed owing = first_duty owing.first ++ flat_map walked owing.walks
-
 -- ---- the sight
 
 -- the port is alone, and nobody is ever in its way
@@ -60,12 +42,11 @@ sight_of seen port = record {
   front = port.front;
   out = port.out;
   contention = 0;
-  duties = listed;
 }
 
 -- the body of fiber f is at home in the port, and as the history says
 abbrev pub IsAtHome : {B S : Type 0} → (B → Carry S) → (B → List Happened → Type 0) → Shown B → ℕ → B → Type 0
-IsAtHome seen fits port f body = IsHome seen fits (origin_in seen port) (seen port.main).share listed port.front f body
+IsAtHome seen fits port f body = IsHome seen fits (origin_in seen port) (seen port.main).share port.front f body
 
 -- the entry of a call that makes no fiber, of a fiber that may owe something there
 abbrev pub marked : {B S : Type 0} → (B → Carry S) → Shown B → ℕ → Call → Reply → Happened
@@ -75,12 +56,27 @@ marked seen port f call reply = happening (is_owing (owed_of (world (origin_in s
 abbrev pub with_entry : {B : Type 0} → Shown B → Happened → Shown B
 with_entry port h = record port { front = port.front ++ h ∷ [] }
 
--- the calls that a body is lent for, and which make no fiber
+-- ---- which calls are which
+
+-- the calls that leave what their fiber owes, and that a report shows
 abbrev pub IsLent : Call → Type 0
-IsLent (call.Complete comp outcome) = ⊤
-IsLent (call.Peek comp) = ⊤
+IsLent (call.Look trigger) = ⊤
+IsLent (call.Attach place comp trigger) = ⊤
 IsLent (call.Say value) = ⊤
 IsLent _ = ⊥
+
+-- the calls that a duty asks for
+abbrev pub Settles : Call → Type 0
+Settles (call.Signal trigger) = ⊤
+Settles (call.Complete comp outcome) = ⊤
+Settles (call.Peek comp) = ⊤
+Settles _ = ⊥
+
+-- the calls that make a thing, and no fiber
+abbrev pub MakesThing : Call → Type 0
+MakesThing call.NewTrigger = ⊤
+MakesThing call.NewPlace = ⊤
+MakesThing _ = ⊥
 
 -- the calls with which a turn is over
 abbrev pub IsLast : Call → Type 0
@@ -107,11 +103,11 @@ pub record IsMain {B S : Type 0} (seen : B → Carry S) (fits : B → List Happe
   pub unnumbered : (seen body).number ≡ None
   pub text : (seen body).birth.text ≡ start.text
   pub current : (seen body).birth.current < start.comps
-  pub owes : (seen body).owes ≡ nothing
+  pub owes : (seen body).owes ≡ []
   pub fitting : fits body []
 
 -- a body that may become the clock's: its number is 0, and nothing has happened to it
 pub record IsClock {B S : Type 0} (seen : B → Carry S) (fits : B → List Happened → Type 0) (body : B) : Type 0 where
   pub number : (seen body).number ≡ Some 0
-  pub owes : (seen body).owes ≡ nothing
+  pub owes : (seen body).owes ≡ []
   pub fitting : fits body []

@@ -1,14 +1,15 @@
-ghost use Rattle.std.specs.Prelude.{◌≡◌, ◌↔◌, ◌∷◌, [], ◌++◌, None, Some, IfOk, IsTrue, OnErr, OnOk};
-ghost use Rattle.pic_machine.specs.State.{CanStart};
+ghost use Rattle.std.specs.Prelude.{◌≡◌, ◌≤◌, ◌↔◌, ◌∷◌, [], ◌++◌, None, Some, IfOk, IsTrue, OnErr, OnOk, length};
+ghost use Rattle.pic_machine.specs.State.{CanStart, owed_of};
 ghost use Rattle.pic_machine.specs.Final.{IsFinal};
 ghost use Rattle.pic_machine.specs.Step.{IsLive};
 ghost use Rattle.pic_machine.specs.History.{IsLegal, world};
+ghost use Rattle.pic_machine.specs.Laws.{Lawful};
 ghost use Rattle.pic_machine.specs.Log.{entries};
 ghost use Rattle.port_plain.specs.Shown.{IsMain, IsClock, births_in, origin_in};
 
 use entry_log::EntryLog;
 use pic_base::{FiberNo, Memory};
-use pic_machine::{Birth, Carried, Start, World};
+use pic_machine::{Birth, Carried, Duties, Start, World};
 use std::alloc::Global;
 use std::marker::Model;
 use std::snapshot::Snapshot;
@@ -68,6 +69,7 @@ impl<B: Carried> PlainPort<B> {
     pub fn history(&self) -> &EntryLog
         ensures entries { result.now.entries ≡ entries self.now.front }
         ensures legal { IsLegal (origin_in B.seen self.now) self.now.front }
+        ensures laws { Lawful (origin_in B.seen self.now) self.now.front }
     {
         &self.history
     }
@@ -85,6 +87,14 @@ impl<B: Carried> PlainPort<B> {
         ensures live { IsTrue result ↔ IsLive (world (origin_in B.seen self.now) self.now.front) fiber }
     {
         self.world.is_live(fiber)
+    }
+
+    /// What a fiber owes; the clock is fiber 0.
+    pub(crate) fn owed(&self, fiber: FiberNo) -> &Duties
+        requires { fiber ≤ length (world (origin_in B.seen self.now) self.now.front).fibers }
+        ensures { result.now ≡ owed_of (world (origin_in B.seen self.now) self.now.front) fiber }
+    {
+        self.world.owed(fiber)
     }
 
     /// Whether nothing is left to do.

@@ -6,8 +6,11 @@ ghost use Rattle.pic_machine.specs.History.{world};
 ghost use Rattle.port_plain.specs.Shown.{origin_in, sight_of};
 
 use crate::plain::{PlainPort, reply};
-use pic_base::{CompNo, FiberNo, Outcome, Value};
-use pic_machine::{Call, Carried, ClaimRefusal, CompleteReply, Idle, Port, PortFault, Reply};
+use pic_base::{Action, CompNo, Duty, FiberNo, Outcome, PlaceNo, TriggerNo, Value};
+use pic_machine::{
+    ArmReply, AttachReply, Call, Carried, ClaimRefusal, CompleteReply, Idle, ParkRefusal, Port,
+    PortFault, Reply, SignalReply, TrigState,
+};
 
 impl<B: Carried> Port for PlainPort<B> {
     type Body = B;
@@ -29,8 +32,46 @@ impl<B: Carried> Port for PlainPort<B> {
         Ok(())
     }
 
+    fn new_trigger(&mut self, body: &mut B) -> Result<TriggerNo, PortFault> {
+        self.make_thing(body, Call::NewTrigger)
+    }
+
+    fn new_place(&mut self, body: &mut B) -> Result<PlaceNo, PortFault> {
+        self.make_thing(body, Call::NewPlace)
+    }
+
+    fn look(&mut self, body: &mut B, trigger: TriggerNo) -> Result<TrigState, PortFault> {
+        let reply = self.lend(body, Call::Look(trigger))?;
+        Ok(reply::seen(reply))
+    }
+
+    fn signal(&mut self, body: &mut B, trigger: TriggerNo) -> Result<SignalReply, PortFault> {
+        let reply = self.settle(body, Call::Signal(trigger))?;
+        Ok(reply::signalled(reply))
+    }
+
+    fn attach(
+        &mut self,
+        body: &mut B,
+        place: PlaceNo,
+        comp: CompNo,
+        trigger: TriggerNo,
+    ) -> Result<AttachReply, PortFault> {
+        let call = Call::Attach {
+            place,
+            comp,
+            trigger,
+        };
+        let reply = self.lend(body, call)?;
+        Ok(reply::attached(reply))
+    }
+
+    fn walk_next(&mut self, body: &mut B) -> Option<Duty> {
+        self.owed(body.fiber()).first()
+    }
+
     fn peek(&mut self, body: &mut B, comp: CompNo) -> Result<Option<Outcome>, PortFault> {
-        let reply = self.lend(body, Call::Peek(comp))?;
+        let reply = self.settle(body, Call::Peek(comp))?;
         Ok(reply::peeked(reply))
     }
 
@@ -40,7 +81,7 @@ impl<B: Carried> Port for PlainPort<B> {
         comp: CompNo,
         outcome: Outcome,
     ) -> Result<CompleteReply, PortFault> {
-        let reply = self.lend(body, Call::Complete { comp, outcome })?;
+        let reply = self.settle(body, Call::Complete { comp, outcome })?;
         Ok(reply::completed(reply))
     }
 
@@ -89,6 +130,27 @@ impl<B: Carried> Port for PlainPort<B> {
         Ok(())
     }
 
+    fn park(&mut self, trigger: TriggerNo, body: B) -> Result<(), (B, ParkRefusal)> {
+        let mut body = body;
+        let fiber = body.fiber();
+        let call = Call::Arm {
+            trigger,
+            action: Action::Resume(fiber),
+        };
+        let Ok(reply) = self.make(fiber, call) else {
+            return Err((body, ParkRefusal::Memory));
+        };
+        body.note(call, reply);
+        match reply::armed(reply) {
+            ArmReply::Set => {
+                self.keep(body);
+                Ok(())
+            }
+            ArmReply::Signalled => Err((body, ParkRefusal::Signalled)),
+            ArmReply::Taken => Err((body, ParkRefusal::Taken)),
+        }
+    }
+
     fn end(&mut self, body: B, outcome: Outcome) -> Result<(), (B, PortFault)> {
         self.finish(body, Call::End(outcome))
     }
@@ -101,5 +163,5 @@ impl<B: Carried> Port for PlainPort<B> {
         }
     }
 
-    ghost owes_none = { λ port. refl };
+    ghost starts = { λ port. record { start = port.start; is = refl } };
 }

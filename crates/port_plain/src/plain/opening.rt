@@ -1,6 +1,7 @@
 //! How a port begins, and what it leaves.
 ghost use Rattle.std.specs.Prelude.{◌≡◌, ◌≤◌, ◌∷◌, ℕ, [], Some, None, IfErr, IfOk, map, slice_get, vec_len, vec_capacity};
 ghost use Rattle.pic_machine.specs.State.{CanStart};
+ghost use Rattle.pic_machine.specs.Laws.{Lawful};
 ghost use Rattle.pic_machine.specs.Log.{entries};
 ghost use Rattle.pic_machine.specs.Closing.{IsLeft};
 ghost use Rattle.port_plain.specs.Closing.{OwesAsLeft};
@@ -48,6 +49,7 @@ impl<B: Carried> PlainPort<B> {
         ensures left { IfOk result (IsLeft B.seen B.fits
             (origin_in B.seen self) (B.seen self.main).share self.front) }
         ensures owes { IfOk result (OwesAsLeft B.seen (sight_of B.seen self)) }
+        ensures laws { IfOk result (λ _. Lawful (origin_in B.seen self) self.front) }
         ensures err { IfErr result (λ port. port ≡ self) }
     {
         let (closed, _) = self.close_with_history()?;
@@ -60,6 +62,7 @@ impl<B: Carried> PlainPort<B> {
         ensures left { IfOk result (λ left. IsLeft B.seen B.fits
             (origin_in B.seen self) (B.seen self.main).share self.front left.0) }
         ensures owes { IfOk result (λ left. OwesAsLeft B.seen (sight_of B.seen self) left.0) }
+        ensures laws { IfOk result (λ _. Lawful (origin_in B.seen self) self.front) }
         ensures history { IfOk result (λ left. left.1.entries ≡ entries self.front) }
         ensures err { IfErr result (λ port. port ≡ self) }
     {

@@ -26,6 +26,7 @@ call-requires g c =
     record {
       port_of = c.requires.port_of;
       up = subst (IsUp (g.P.Port.sight c.args.port.now)) (sym same) c.requires.up;
+      free = subst (λ (z : Shown). z.owes ≡ _) (sym same) c.requires.free;
       before = subst (λ (z : Shown). IsBefore z c.args.spot one) (sym same) (record { here = c.requires.at; steps = some });
       not_done = subst (λ (z : Shown). result z.context.registers z.context.cells one ≡ _) (sym same) (c.requires.waits some).not_done;
       calls = subst (λ (z : Shown). first z.context one ≡ calls one) (sym same) (subst (λ t. OnFalse t (first body.context one ≡ calls one)) c.in-Ok-false.field-0-test c.in-Ok-false.ensures.calls);

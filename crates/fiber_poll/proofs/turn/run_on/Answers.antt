@@ -1,12 +1,12 @@
 use Rattle.std.proofs.lemmas.Result.{err_from_is_err_and}
 use Rattle.std.proofs.Common.{refl, subst, ◌∙◌}
 use Rattle.fiber_poll.specs.UnderWay.{IsStep}
-use Rattle.fiber_poll.proofs.Going.{gave_up_after, on_none, on_trans, port_stays}
+use Rattle.fiber_poll.proofs.Going.{free_gone, gave_up_after, on_none, on_trans, port_stays}
 use Rattle.fiber_poll.proofs.Looping.{on_with}
 use Rattle.fiber_poll.proofs.turn.run_on.Goals as goal
 
 pub loop-outcome-init : goal.loop-outcome-init
-loop-outcome-init g c = (on_none c.requires.up, refl)
+loop-outcome-init g c = (on_none c.requires.up, refl, c.requires.free)
 
 pub run_from-requires-clause-port_of : goal.run_from-requires-clause-port_of
 run_from-requires-clause-port_of g c = port_stays c.requires.port_of c.loop-outcome.invariant.0
@@ -29,7 +29,13 @@ pub loop-outcome-smaller : goal.loop-outcome-smaller
 loop-outcome-smaller g c = subst (IsStep c.loop-outcome.body c.run_from.new.body) c.in_default.is c.in_ok-last-in-At.ensures.step
 
 pub loop-outcome-preserved : goal.loop-outcome-preserved
-loop-outcome-preserved g c = (on_trans c.loop-outcome.invariant.0 c.run_from.ensures.on, c.in_ok-last-in-At.ensures.calm ∙ c.loop-outcome.invariant.1)
+loop-outcome-preserved g c = (on_trans c.loop-outcome.invariant.0 c.run_from.ensures.on, c.in_ok-last-in-At.ensures.calm ∙ c.loop-outcome.invariant.1, c.in_ok-last-in-At.ensures.free)
 
 pub loop-outcome-preserved-in-Out : goal.loop-outcome-preserved-in-Out
-loop-outcome-preserved-in-Out g c = (on_with c.loop-outcome.invariant.0 c.leave.ensures.goes, c.loop-outcome.invariant.1)
+loop-outcome-preserved-in-Out g c = (on_with c.loop-outcome.invariant.0 c.leave.ensures.goes, c.loop-outcome.invariant.1, free_gone c.leave.ensures.goes c.loop-outcome.invariant.2)
+
+pub run_from-requires-clause-free : goal.run_from-requires-clause-free
+run_from-requires-clause-free g c = c.loop-outcome.invariant.2
+
+pub returns-in-Ending-clause-free : goal.returns-in-Ending-clause-free
+returns-in-Ending-clause-free g c = c.loop-outcome.invariant.2

@@ -8,5 +8,5 @@ returns-in_default-clause-none g c =
 
 pub returns-clause-made : goal.returns-clause-made
 returns-clause-made g c =
-    lent_answered g.B.Carried.seen c.args.self.now c.make.new.self c.fiber-fiber.result c.args.call c.in-Ok.reply c.in-Ok.ensures.made c.in-Ok.ensures.follows
-    (g.B.Carried.seen c.args.body.now) (g.B.Carried.seen c.note.new.self) c.requires.can.holds c.fiber-fiber.ensures c.requires.lent c.note.ensures.notes
+    lent_answered g.B.Carried.seen c.args.self.now c.make.new.self (g.B.Carried.seen c.args.body.now) c.requires.can.holds c.fiber-fiber.result c.fiber-fiber.ensures c.args.call c.in-Ok.reply c.in-Ok.ensures.made c.in-Ok.ensures.follows
+    (g.B.Carried.seen c.note.new.self) c.requires.lent c.note.ensures.notes

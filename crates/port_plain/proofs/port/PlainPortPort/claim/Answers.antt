@@ -1,5 +1,5 @@
 use Rattle.std.proofs.Common.{refl}
-use Rattle.port_plain.proofs.Lent.{claim_began, claim_held}
+use Rattle.port_plain.proofs.Turns.{claim_began, claim_held}
 use Rattle.port_plain.proofs.port.PlainPortPort.claim.Goals as goal
 
 pub returns-in-Ok-clause-made : goal.returns-in-Ok-clause-made

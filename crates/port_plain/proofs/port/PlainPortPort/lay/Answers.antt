@@ -1,5 +1,5 @@
 use Rattle.pic_machine.specs.Sight.{fiber_of}
-use Rattle.port_plain.proofs.Lent.{laid_back}
+use Rattle.port_plain.proofs.Turns.{laid_back}
 use Rattle.port_plain.proofs.port.PlainPortPort.lay.Goals as goal
 
 pub returns-clause-laid : goal.returns-clause-laid

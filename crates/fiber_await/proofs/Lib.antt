@@ -1,0 +1,7 @@
+pub mod Answering
+pub mod Reserving
+pub mod Calling
+pub mod Running
+pub mod Readying
+pub mod Halving
+pub mod Fulfilling

@@ -1,0 +1,5 @@
+use Rattle.fiber_await.proofs.Running.{Ran-trans}
+use Rattle.fiber_await.proofs.ready.make_ready.Goals as goal
+
+pub returns-clause-ran : goal.returns-clause-ran
+returns-clause-ran g c = Ran-trans _ _ _ _ _ _ _ _ _ _ c.make_trigger.ensures.ran c.make_place.ensures.ran

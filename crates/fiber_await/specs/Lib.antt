@@ -1,0 +1,4 @@
+pub mod Doing
+pub mod Phases
+pub mod Refusing
+pub mod Discharging

@@ -25,5 +25,5 @@ loop-fiber-preserved g c = record {
   under_way = c.in_ok-run_turn.ensures.under_way;
 }
 
-pub finish-requires-clause-under_way : goal.finish-requires-clause-under_way
-finish-requires-clause-under_way g c κs within = rw c.in_default.ensures.queue at c.loop-fiber.invariant.under_way
+pub finish-requires : goal.finish-requires
+finish-requires g c = record { under_way = rw c.in_default.ensures.queue at c.loop-fiber.invariant.under_way }

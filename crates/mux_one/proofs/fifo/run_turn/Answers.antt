@@ -3,10 +3,10 @@ use Rattle.mux_one.proofs.Running.{first_in_range, first_live, next_turn, one_fu
 use Rattle.mux_one.proofs.fifo.run_turn.Goals as goal
 
 pub claim-requires-clause-range : goal.claim-requires-clause-range
-claim-requires-clause-range g c κs within = first_in_range c.requires.under_way
+claim-requires-clause-range g c = first_in_range c.requires.under_way
 
 pub claim-requires-clause-live : goal.claim-requires-clause-live
-claim-requires-clause-live g c κs within = first_live c.requires.under_way
+claim-requires-clause-live g c = first_live c.requires.under_way
 
 pub returns-clause-under_way : goal.returns-clause-under_way
 returns-clause-under_way g c =

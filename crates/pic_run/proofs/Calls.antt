@@ -98,7 +98,7 @@ serves_put D o text good (Err refusal.Memory) due puts = memory (inr (record { t
 
 -- ---- the bytes of a script
 
-headline_of : {bytes text script input : List ℕ} {traced logged : Bool} {status : Status} (held : Held) (o : Output) → Answers bytes (run script input traced logged) text status → Gives held bytes → Appends o.before o.now text → (status ≡ Done) ⊎ (status ≡ Raised)
+headline_of : {bytes text script input : List ℕ} {traced logged : Bool} {status : Status} (held : Held) (o : Output) → Answers bytes (run script input traced logged) text status → Gives held bytes → Appends o.before o.now text → IsOfRun status
     → Headline held traced logged o.before o.now status
 headline_of held o (refused r cause) given appends is = absurd is
 headline_of {bytes} held o (ran tree history reads accepts is_run ended) given appends is = record {

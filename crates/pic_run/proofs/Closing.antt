@@ -1,7 +1,8 @@
 -- From what is left of the port, once a run is over, to what is told of the run.
-use Rattle.std.proofs.Common.{◌≡◌, ◌≢◌, ℕ, zero, suc, ◌+◌, ◌-◌, ◌<◌, ◌≤◌, ◌⊎◌, inl, inr, Bool, true, false, Option, Some, None, List, [], ◌∷◌, length, slice_get, get_or, refl, sym, ap, subst, ◌∙◌, arith}
+use Rattle.std.proofs.Common.{◌≡◌, ◌≢◌, ℕ, zero, suc, ◌+◌, ◌-◌, ◌<◌, ◌≤◌, ◌⊎◌, inl, inr, Bool, true, false, Option, Some, None, List, [], ◌∷◌, length, filter, slice_get, get_or, refl, sym, ap, subst, ◌∙◌, arith}
 use Rattle.std.specs.Prelude.{All}
 use Rattle.std.specs.Bool.{then_some}
+use Rattle.std.proofs.lemmas.List.Sums.{length-filter}
 use Rattle.std.proofs.lemmas.Option.{slice_get-get_or, slice_get_cases}
 use Rattle.pic_base.specs.declared.outcome.Outcome.TheVariants.{Returned, Cancelled}
 use Rattle.pic_machine.specs.declared.birth.Birth.{Birth}
@@ -25,7 +26,7 @@ use Rattle.fiber_body.specs.Fits.{Fits, MayBeOf}
 use Rattle.pic_run.specs.declared.report.Report.{Report}
 use Rattle.pic_run.specs.Run.{IsRunOf, origin}
 use Rattle.pic_run.specs.Over.{IsOver, IsReportOf}
-use Rattle.pic_report.specs.Report.{report, suspended_count}
+use Rattle.pic_report.specs.Report.{is_suspended, report, suspended_count}
 use Rattle.pic_report.specs.View.{IsLeftOf, IsTraceOf, IsViewOf, main_state, states_of, view_text}
 use Rattle.pic_report.proofs.Reports.{states_viewed}
 use Rattle.std.specs.Arc.{arc_value}
@@ -34,12 +35,13 @@ use Rattle.pic_run.specs.Status.{IsStatusOf, IsStuck, main_status, status_of}
 -- ---- the status
 
 -- where none is counted, none is suspended
-none_counted : (states : List FiberState) (place t : ℕ) → suspended_count states ≡ 0 → slice_get states place ≡ Some (Suspended t) → ⊥
+none_counted : (states : List FiberState) (place t : ℕ) → length (filter is_suspended states) ≡ 0 → slice_get states place ≡ Some (Suspended t) → ⊥
 none_counted [] place t none is = cc
-none_counted (Suspended u ∷ states) zero t none is = absurd (omega (arith, none))
+none_counted (Suspended u ∷ states) place t none is = absurd (omega (arith, none))
 none_counted (Live ∷ states) zero t none is = cc
+none_counted (Live ∷ states) (suc place) t none is = none_counted states place t none is
 none_counted (Ended o ∷ states) zero t none is = cc
-none_counted (state ∷ states) (suc place) t none is = none_counted states place t (omega (arith, none)) is
+none_counted (Ended o ∷ states) (suc place) t none is = none_counted states place t none is
 
 -- where some are, one of them is
 record IsCounted (states : List FiberState) : Type 0 where
@@ -50,7 +52,7 @@ record IsCounted (states : List FiberState) : Type 0 where
 one_behind : (state : FiberState) (states : List FiberState) → IsCounted states → IsCounted (state ∷ states)
 one_behind state states counted = record { place = suc counted.place; trigger = counted.trigger; is = counted.is }
 
-one_counted : (states : List FiberState) → 0 < suspended_count states → IsCounted states
+one_counted : (states : List FiberState) → 0 < length (filter is_suspended states) → IsCounted states
 one_counted [] some = absurd (omega (arith, some))
 one_counted (Suspended t ∷ states) some = record { place = 0; trigger = t; is = refl }
 one_counted (Live ∷ states) some = one_behind Live states (one_counted states some)
@@ -58,7 +60,7 @@ one_counted (Ended o ∷ states) some = one_behind (Ended o) states (one_counted
 
 module _ (w : State) (rest : All (IsAtRest w.triggers) w.fibers) (made : 0 < length w.fibers) where
   none_waits : suspended_count w.fibers ≡ 0 → IsStuck w → ⊥
-  none_waits none stuck = none_counted w.fibers (stuck.fiber - 1) stuck.trigger none stuck.waits.state
+  none_waits none stuck = none_counted w.fibers (stuck.fiber - 1) stuck.trigger (length-filter is_suspended w.fibers ∙ none) stuck.waits.state
 
   main_at : (none : IsStuck w → ⊥) (main : FiberState) → slice_get w.fibers 0 ≡ Some main → IsAtRest w.triggers main → IsStatusOf w (main_status (Some main))
   main_at none Live is rests = absurd rests
@@ -71,7 +73,7 @@ module _ (w : State) (rest : All (IsAtRest w.triggers) w.fibers) (made : 0 < len
       let there = slice_get-get_or w.fibers 0 Live made in
       subst (λ (main : Option FiberState). IsStatusOf w (main_status main)) (sym there) (main_at (none_waits none) (get_or w.fibers 0 Live) there (rest 0 Live made))
   by_count (suc others) some =
-      let one = one_counted w.fibers (omega (arith, some)) in
+      let one = one_counted w.fibers (omega (arith, some, length-filter is_suspended w.fibers)) in
       let here : suc one.place - 1 ≡ one.place = omega arith in
       record { fiber = suc one.place; trigger = one.trigger; waits = record { made = omega arith; state = ap (slice_get w.fibers) here ∙ one.is } }
 

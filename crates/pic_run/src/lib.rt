@@ -6,8 +6,8 @@
 //! - `answer_script` answers a request on the bytes of a script, without files: both others go through
 //!   it.
 //!
-//! A run parses the script (`script_tree`), opens a port, has `mux_one` run all fibers to their ends on
-//! it (`run`), and has `pic_report` write the report (`report`).
+//! A run parses the script (`script_tree`), opens a port, has `mux_one` run all fibers on it until each
+//! one has ended or is suspended for good (`run`), and has `pic_report` write the report (`report`).
 //!
 //! `specs/` has the definitions that the contracts cite: what the words ask for (`Request`), which text
 //! is due with which status (`Due`), what a call promises of it (`Promise`), the headline of a run

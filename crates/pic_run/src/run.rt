@@ -1,4 +1,4 @@
-//! Runs a program from its start to its end.
+//! Runs a program from its start until nothing is left to do.
 ghost use Rattle.std.specs.Prelude.{IsTrue, IfOk};
 ghost use Rattle.std.specs.Arc.{arc_value};
 ghost use Rattle.fiber_poll.specs.Built.{is_built};
@@ -14,7 +14,7 @@ use script_tree::Program;
 use std::alloc::Global;
 use std::sync::Arc;
 
-/// Runs main, and each fiber that is made, to its end.
+/// Runs main, and each fiber that is made, until each one has ended or is suspended for good.
 pub(crate) fn run_program(alloc: Global, program: &Arc<Program>) -> Result<PlainPort<Body>, Memory>
     requires { IsTrue (is_built (arc_value program.now)) }
     ensures { IfOk result (IsOver (arc_value program.now)) }

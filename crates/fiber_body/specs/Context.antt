@@ -1,16 +1,19 @@
 -- What statements read and write, and what a fiber's script gives them.
-use Rattle.std.specs.Prelude.{ℕ, ◌+◌, ◌-◌, ◌==◌, nat_lt, nat_le, not, Bool, List, [], ◌∷◌, Option, Some, None, slice_get, slice_index, slice_index_or, slice_set}
+use Rattle.std.specs.Prelude.{ℕ, ◌+◌, ◌-◌, ◌==◌, nat_lt, nat_le, cond, not, Bool, List, [], ◌∷◌, Option, Some, None, slice_get, slice_index, slice_index_or, slice_set}
 use Rattle.script_tree.specs.declared.program.CompRef.{CompRef}
 use Rattle.script_tree.specs.declared.program.CompRef.TheVariants.{Root, Named, Promise}
 use Rattle.script_tree.specs.declared.program.Decl.{Decl}
 use Rattle.script_tree.specs.declared.program.Kind.{Kind}
-use Rattle.script_tree.specs.declared.program.Kind.TheVariants.{Comp}
 use Rattle.script_tree.specs.declared.program.Operand.{Operand}
 use Rattle.script_tree.specs.declared.program.Operand.TheVariants.{Reg, Num}
 use Rattle.script_tree.specs.declared.program.Stmt.{Stmt}
 use Rattle.script_tree.specs.declared.program.Test.{Test}
 use Rattle.script_tree.specs.declared.program.Test.TheVariants as test
+use Rattle.script_tree.specs.declared.thing.Sort.{Sort}
+use Rattle.script_tree.specs.declared.thing.Sort.TheVariants as sort
+use Rattle.script_tree.specs.Names.{sort_of, sort_number}
 use Rattle.script_tree.specs.Tree.{Tree}
+use Rattle.script_tree.specs.WellFormed.{how_many}
 
 -- ---- what doesn't change while a fiber runs
 
@@ -25,16 +28,26 @@ block_at blocks place = slice_index_or blocks place []
 
 -- ---- numbers of declared things
 
--- a computation takes a number
-abbrev pub behind_decl : ℕ → Kind → ℕ
-behind_decl n Comp = n + 1
-behind_decl n kind = n
+-- a declaration of the sort takes a number
+abbrev pub behind_decl : Sort → ℕ → Kind → ℕ
+behind_decl sort n kind = cond (sort_number (sort_of kind) == sort_number sort) (n + 1) n
 
--- beside each declaration the number of the computation that is declared there, or that comes next: the root has 0, so
--- a script's declarations begin with 1
-abbrev pub comp_numbers : ℕ → List Decl → List ℕ
-comp_numbers n [] = []
-comp_numbers n (d ∷ ds) = n ∷ comp_numbers (behind_decl n d.kind) ds
+-- beside each declaration the number of the thing of this sort that is declared there, or of the one that comes next
+abbrev pub numbers_of : Sort → ℕ → List Decl → List ℕ
+numbers_of sort n [] = []
+numbers_of sort n (d ∷ ds) = n ∷ numbers_of sort (behind_decl sort n d.kind) ds
+
+-- each sort of things is numbered by itself: triggers from 0, and computations from 1, since the root has 0
+pub record Numbering : Type 0 where
+  pub triggers : List ℕ
+  pub comps : List ℕ
+
+abbrev pub numbering : List Decl → Numbering
+numbering decls = record { triggers = numbers_of sort.Trigger 0 decls; comps = numbers_of sort.Comp 1 decls }
+
+-- how many of the sort are declared
+abbrev pub count_of : Sort → List Decl → ℕ
+count_of sort decls = how_many (λ s. s == sort_number sort) decls
 
 -- the number of a computation, where those that are declared have these numbers; so far nothing stands in a promise register
 abbrev pub comp_in : List ℕ → CompRef → Option ℕ

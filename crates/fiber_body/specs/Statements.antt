@@ -1,7 +1,7 @@
 -- How statements begin: those that change registers and storage alone, or only leave their block, come to
 -- their end at once; others have one call, or a block. Statements that no run serves yet have no row: they
 -- begin, and ask for nothing.
-use Rattle.std.specs.Prelude.{ℕ, ◌+◌, ◌-◌, ◌*◌, nat_le, cond, List, Option, Some, None, slice_index, slice_set}
+use Rattle.std.specs.Prelude.{ℕ, ◌+◌, ◌-◌, ◌*◌, nat_le, cond, List, Option, Some, None, slice_get, slice_index, slice_set}
 use Rattle.pic_base.specs.declared.outcome.Outcome.{Outcome}
 use Rattle.pic_base.specs.declared.outcome.Outcome.TheVariants.{Returned, Cancelled}
 use Rattle.pic_machine.specs.declared.birth.Birth.{Birth}
@@ -15,7 +15,7 @@ use Rattle.script_tree.specs.declared.program.Stmt.{Stmt}
 use Rattle.script_tree.specs.declared.program.Stmt.TheVariants as stmt
 use Rattle.fiber_body.specs.declared.standing.Exit.{Exit}
 use Rattle.fiber_body.specs.declared.standing.Exit.TheVariants.{Next, Raised, Broke}
-use Rattle.fiber_body.specs.Context.{Context, comp_in, holds, limit_met, most, overflow, value, value_in, with_register}
+use Rattle.fiber_body.specs.Context.{Context, Numbering, comp_in, holds, limit_met, most, overflow, value, value_in, with_register}
 use Rattle.fiber_body.specs.Phases.{Phase, branches, calls, ended, goes_on, raise, repeating, tries}
 
 -- ---- statements without a call and without a block
@@ -64,15 +64,17 @@ result registers cells _ = None
 
 abbrev pub on : Option ℕ → (ℕ → Call) → Option Call
 on None call = None
-on (Some comp) call = Some (call comp)
+on (Some number) call = Some (call number)
 
--- the call, where the declared computations have these numbers
-abbrev pub call_of : List ℕ → Context → Stmt → Option Call
+-- the call, where the declared things have these numbers
+abbrev pub call_of : Numbering → Context → Stmt → Option Call
 call_of numbers c (stmt.Say v) = Some (call.Say (value c v))
 call_of numbers c stmt.Yield = Some call.Yield
-call_of numbers c (stmt.Return r comp v) = on (comp_in numbers comp) (λ k. call.Complete k (Returned (value c v)))
-call_of numbers c (stmt.Cancel r comp v) = on (comp_in numbers comp) (λ k. call.Complete k (Cancelled (value c v)))
-call_of numbers c (stmt.Peek r q comp) = on (comp_in numbers comp) (λ k. call.Peek k)
+call_of numbers c (stmt.Return r comp v) = on (comp_in numbers.comps comp) (λ k. call.Complete k (Returned (value c v)))
+call_of numbers c (stmt.Cancel r comp v) = on (comp_in numbers.comps comp) (λ k. call.Complete k (Cancelled (value c v)))
+call_of numbers c (stmt.Peek r q comp) = on (comp_in numbers.comps comp) (λ k. call.Peek k)
+call_of numbers c (stmt.Signal t) = on (slice_get numbers.triggers t) (λ n. call.Signal n)
+call_of numbers c (stmt.Detach comp t) = on (slice_get numbers.triggers t) (λ n. call.Signal n)
 call_of numbers c (stmt.Spawn text v) = Some (call.Fork text (value c v))
 call_of numbers c _ = None
 

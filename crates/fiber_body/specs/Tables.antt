@@ -10,12 +10,12 @@ use Rattle.script_tree.specs.declared.program.Operand.TheVariants.{Reg}
 use Rattle.script_tree.specs.Tree.{Tree}
 use Rattle.fiber_body.specs.declared.standing.Exit.{Exit}
 use Rattle.fiber_body.specs.declared.standing.Exit.TheVariants.{Next, Raised, Broke, Spent}
-use Rattle.fiber_body.specs.Context.{Context, comp_numbers, no_step, stepped, value, with_register}
+use Rattle.fiber_body.specs.Context.{Context, no_step, numbering, stepped, value, with_register}
 use Rattle.fiber_body.specs.Phases.{Phase, branches, calls, catching, ended, ending, ends, gone, lives, repeating, tries}
 use Rattle.fiber_body.specs.Statements.{call_of, replied}
 
 abbrev pub asks : Tree → Context → Phase → Option Call
-asks script c (calls one) = call_of (comp_numbers 1 script.decls) c one
+asks script c (calls one) = call_of (numbering script.decls) c one
 asks script c (ending outcome ends) = Some (End outcome)
 asks script c _ = None
 

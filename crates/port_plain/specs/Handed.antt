@@ -19,4 +19,3 @@ pub record IsOut {S : Type 0} (p : Sight S) (a : Carry S) : Type 0 where
 pub record IsIn {S : Type 0} (p : Sight S) : Type 0 where
   pub out : p.out ≡ None
   pub begun : Begins p.origin.world
-

@@ -1,15 +1,15 @@
 -- How many things a program declares: each is a trigger, a computation or an object, and of these there
 -- are few.
-use Rattle.std.proofs.Common.{◌≡◌, ℕ, zero, suc, ◌+◌, ◌≤◌, ◌==◌, true, false, List, [], ◌∷◌, ◌++◌, ◌<◌, length, get_or, drop, append_assoc, refl, sym, ap, ◌∙◌, arith}
+use Rattle.std.proofs.Common.{◌≡◌, ℕ, zero, suc, ◌+◌, ◌≤◌, ◌==◌, Bool, true, false, cond, List, [], ◌∷◌, ◌++◌, ◌<◌, length, get_or, drop, append_assoc, refl, sym, ap, ◌∙◌, arith}
 use Rattle.std.specs.Prelude.{nat_le}
 use Rattle.std.proofs.lemmas.Bool.Decides.{nat_tests}
 use Rattle.script_tree.specs.declared.program.Decl.{Decl}
 use Rattle.script_tree.specs.declared.program.Kind.{Kind}
-use Rattle.script_tree.specs.declared.program.Kind.TheVariants.{Comp}
+use Rattle.script_tree.specs.declared.thing.Sort.{Sort}
 use Rattle.script_tree.specs.Names.{sort_of, sort_number}
 use Rattle.script_tree.specs.Tree.{Tree}
 use Rattle.script_tree.specs.WellFormed.{IsWellFormed, how_many}
-use Rattle.fiber_body.specs.Context.{behind_decl, comp_numbers}
+use Rattle.fiber_body.specs.Context.{behind_decl, count_of, numbers_of}
 use Rattle.fiber_body.specs.Places.{drop_more}
 
 -- the triggers, the computations and the objects
@@ -41,13 +41,30 @@ few_declared tree formed =
 
 -- ---- their numbers
 
-pub numbered : (front : List ℕ) (n place : ℕ) (d : Decl) (decls all : List Decl) → place < length decls → d ≡ get_or decls place d
-    → front ++ comp_numbers n (drop place decls) ≡ comp_numbers 1 all → (front ++ n ∷ []) ++ comp_numbers (behind_decl n d.kind) (drop (place + 1) decls) ≡ comp_numbers 1 all
-numbered front n place d decls all within there is =
+pub numbered : (sort : Sort) (front : List ℕ) (n first place : ℕ) (d : Decl) (decls all : List Decl) → place < length decls → d ≡ get_or decls place d
+    → front ++ numbers_of sort n (drop place decls) ≡ numbers_of sort first all → (front ++ n ∷ []) ++ numbers_of sort (behind_decl sort n d.kind) (drop (place + 1) decls) ≡ numbers_of sort first all
+numbered sort front n first place d decls all within there is =
     let next : drop place decls ≡ d ∷ drop (place + 1) decls = drop_more decls place d within ∙ ap (λ (x : Decl). x ∷ drop (place + 1) decls) (sym there) in
-    append_assoc front (n ∷ []) (comp_numbers (behind_decl n d.kind) (drop (place + 1) decls))
-    ∙ (ap (λ (ds : List Decl). front ++ comp_numbers n ds) (sym next) ∙ is)
+    append_assoc front (n ∷ []) (numbers_of sort (behind_decl sort n d.kind) (drop (place + 1) decls))
+    ∙ (ap (λ (ds : List Decl). front ++ numbers_of sort n ds) (sym next) ∙ is)
 
-pub no_more : (n : ℕ) (k : Kind) → behind_decl n k ≤ n + 1
-no_more n Comp = omega arith
-no_more n _ = omega arith
+one_at_most : (b : Bool) (n : ℕ) → cond b (n + 1) n ≤ n + 1
+one_at_most true n = omega arith
+one_at_most false n = omega arith
+
+pub no_more : (sort : Sort) (n : ℕ) (k : Kind) → behind_decl sort n k ≤ n + 1
+no_more sort n k = one_at_most (sort_number (sort_of k) == sort_number sort) n
+
+-- ---- how many there are
+
+counted_by : (sort : Sort) (n : ℕ) (d : Decl) (ds : List Decl) (b : Bool) → (sort_number (sort_of d.kind) == sort_number sort) ≡ b → behind_decl sort n d.kind + count_of sort ds ≡ n + count_of sort (d ∷ ds)
+counted_by sort n d ds true is = rw is (omega arith)
+counted_by sort n d ds false is = rw is refl
+
+-- one declaration more is counted
+pub one_counted : (sort : Sort) (n place : ℕ) (d : Decl) (decls all : List Decl) → place < length decls → d ≡ get_or decls place d
+    → n + count_of sort (drop place decls) ≡ count_of sort all → behind_decl sort n d.kind + count_of sort (drop (place + 1) decls) ≡ count_of sort all
+one_counted sort n place d decls all within there is =
+    let next : drop place decls ≡ d ∷ drop (place + 1) decls = drop_more decls place d within ∙ ap (λ (x : Decl). x ∷ drop (place + 1) decls) (sym there) in
+    counted_by sort n d (drop (place + 1) decls) (sort_number (sort_of d.kind) == sort_number sort) refl
+    ∙ (ap (λ (ds : List Decl). n + count_of sort ds) (sym next) ∙ is)

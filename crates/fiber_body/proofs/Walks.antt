@@ -1,10 +1,13 @@
 -- Walks through each line of the tables, by given replies: a table with a wrong line has another walk.
 use Rattle.std.proofs.Common.{◌≡◌, ℕ, Some, None, List, [], ◌∷◌, replicate, refl}
+use Rattle.pic_base.specs.declared.action.Action.TheVariants.{Resume}
 use Rattle.pic_base.specs.declared.outcome.Outcome.TheVariants.{Returned, Cancelled}
 use Rattle.pic_machine.specs.declared.birth.Birth.{Birth}
 use Rattle.pic_machine.specs.declared.entry.Call.TheVariants as call
 use Rattle.pic_machine.specs.declared.entry.CompleteReply.TheVariants.{Won, Lost}
 use Rattle.pic_machine.specs.declared.entry.Reply.{Reply}
+use Rattle.pic_machine.specs.declared.entry.Reply.TheVariants as reply
+use Rattle.pic_machine.specs.declared.entry.SignalReply.TheVariants as signal
 use Rattle.pic_machine.specs.declared.entry.Reply.TheVariants.{Plain, Full, Made, Completed, Peeked}
 use Rattle.pic_machine.specs.Happened.{Happened}
 use Rattle.pic_machine.specs.History.{event, forked}
@@ -15,10 +18,11 @@ use Rattle.script_tree.specs.declared.program.Operand.TheVariants.{Reg, Num}
 use Rattle.script_tree.specs.declared.program.Stmt.{Stmt}
 use Rattle.script_tree.specs.declared.program.Stmt.TheVariants as stmt
 use Rattle.script_tree.specs.declared.program.Test.{Test}
+use Rattle.script_tree.specs.declared.thing.Sort.TheVariants as sort
 use Rattle.script_tree.specs.declared.program.Test.TheVariants as test
 use Rattle.fiber_body.specs.declared.standing.Exit.{Exit}
 use Rattle.fiber_body.specs.declared.standing.Exit.TheVariants.{Next, Raised, Broke, Spent}
-use Rattle.fiber_body.specs.Context.{Context, Setting, comp_in, comp_numbers}
+use Rattle.fiber_body.specs.Context.{Context, Setting, comp_in, count_of, numbering}
 use Rattle.fiber_body.specs.Follows.{FollowsText, context_of}
 use Rattle.fiber_body.specs.Phases.{Phase, calls, ending, ends, gone, lives, repeating}
 use Rattle.fiber_body.specs.Segments.{Acts, IsSpent, Runs, and_out, at, between, cut, rests, stops, whole}
@@ -28,7 +32,7 @@ use Rattle.fiber_body.proofs.Walking.{Walk, walker}
 -- ---- what the walks share
 
 abbrev decls : List Decl
-decls = record { name = []; kind = kind.Trigger } ∷ record { name = []; kind = kind.Comp } ∷ record { name = []; kind = kind.Mutex } ∷ record { name = []; kind = kind.Comp } ∷ []
+decls = record { name = []; kind = kind.Trigger } ∷ record { name = []; kind = kind.Comp } ∷ record { name = []; kind = kind.Mutex } ∷ record { name = []; kind = kind.Comp } ∷ record { name = []; kind = kind.Trigger } ∷ []
 
 -- fiber 3 of a script with these blocks
 abbrev within : List (List Stmt) → Setting
@@ -118,6 +122,12 @@ one_spawns : Leaves [] (stmt.Spawn 6 (Reg 0) ∷ stmt.Spawn 6 (Num 9) ∷ stmt.S
     (forked 3 4 (record { text = 6; value = 5; current = 2 }) ∷ event 3 (call.Fork 6 9) Full ∷ []) (Raised 3) (with (5 ∷ []) 7)
 one_spawns = (ran _ _ _ (Made 4 ∷ Full ∷ [])).is
 
+-- a trigger is signalled, by itself or as one that may be attached, and what the signal met makes no difference
+one_signals : Leaves [] (stmt.Signal 0 ∷ stmt.Signal 4 ∷ stmt.Detach (Named 1) 4 ∷ []) (with (5 ∷ []) 3)
+    (event 3 (call.Signal 0) (reply.Signalled signal.Plain) ∷ event 3 (call.Signal 1) (reply.Signalled (signal.Acted (Resume 2))) ∷ event 3 (call.Signal 1) (reply.Signalled signal.Already) ∷ [])
+    Next (with (5 ∷ []) 0)
+one_signals = (ran _ _ _ (reply.Signalled signal.Plain ∷ reply.Signalled (signal.Acted (Resume 2)) ∷ reply.Signalled signal.Already ∷ [])).is
+
 -- beside another call no birth is noted, whatever its reply
 no_birth : Leaves [] (stmt.Say (Num 1) ∷ []) (with [] 1) (event 3 (call.Say 1) (Made 4) ∷ []) Next (with [] 0)
 no_birth = (ran _ _ _ (Made 4 ∷ [])).is
@@ -134,14 +144,23 @@ nothing_asked = (ran _ _ _ (plain 2)).is
 nobody_peeked_at : Runs (within []) (stmt.Peek 0 1 (Promise 0) ∷ []) (with [] 9) [] (cut (at (calls (stmt.Peek 0 1 (Promise 0))))) (with [] 8)
 nobody_peeked_at = (ran _ _ _ (plain 1)).is
 
-nobody_completed : Runs (within []) (stmt.Return 0 (Named 4) (Num 1) ∷ []) (with [] 9) [] (cut (at (calls (stmt.Return 0 (Named 4) (Num 1))))) (with [] 8)
+no_trigger : Runs (within []) (stmt.Signal 7 ∷ stmt.Say (Num 1) ∷ []) (with [] 9) [] (cut (at (calls (stmt.Signal 7)))) (with [] 8)
+no_trigger = (ran _ _ _ (plain 1)).is
+
+nobody_completed : Runs (within []) (stmt.Return 0 (Named 9) (Num 1) ∷ []) (with [] 9) [] (cut (at (calls (stmt.Return 0 (Named 9) (Num 1))))) (with [] 8)
 nobody_completed = (ran _ _ _ (plain 1)).is
 
 -- ---- numbers
 
--- each declaration has the number of the computation that it declares, or of the next one: trigger, computation, mutex, computation
-numbers : comp_numbers 1 decls ≡ 1 ∷ 1 ∷ 2 ∷ 2 ∷ []
+-- each declaration has the number of what it declares, or of the next one: trigger, computation, mutex, computation, trigger
+numbers : numbering decls ≡ record { triggers = 0 ∷ 1 ∷ 1 ∷ 1 ∷ 1 ∷ []; comps = 1 ∷ 1 ∷ 2 ∷ 2 ∷ 3 ∷ [] }
 numbers = refl
+
+two_triggers : count_of sort.Trigger decls ≡ 2
+two_triggers = refl
+
+two_comps : count_of sort.Comp decls ≡ 2
+two_comps = refl
 
 the_root : comp_in (1 ∷ 5 ∷ []) Root ≡ Some 0
 the_root = refl

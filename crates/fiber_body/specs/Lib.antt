@@ -1,5 +1,6 @@
 pub mod Texts
 pub mod Context
+pub mod Counted
 pub mod Phases
 pub mod Statements
 pub mod Tables

@@ -10,6 +10,7 @@ use Rattle.script_tree.specs.Names.{sort_of, sort_number}
 use Rattle.script_tree.specs.Tree.{Tree}
 use Rattle.script_tree.specs.WellFormed.{IsWellFormed, how_many}
 use Rattle.fiber_body.specs.Context.{behind_decl, count_of, numbers_of}
+use Rattle.fiber_body.specs.Numbering.{more_counted}
 use Rattle.fiber_body.specs.Places.{drop_more}
 
 -- the triggers, the computations and the objects
@@ -57,14 +58,10 @@ no_more sort n k = one_at_most (sort_number (sort_of k) == sort_number sort) n
 
 -- ---- how many there are
 
-counted_by : (sort : Sort) (n : ℕ) (d : Decl) (ds : List Decl) (b : Bool) → (sort_number (sort_of d.kind) == sort_number sort) ≡ b → behind_decl sort n d.kind + count_of sort ds ≡ n + count_of sort (d ∷ ds)
-counted_by sort n d ds true is = rw is (omega arith)
-counted_by sort n d ds false is = rw is refl
-
 -- one declaration more is counted
 pub one_counted : (sort : Sort) (n place : ℕ) (d : Decl) (decls all : List Decl) → place < length decls → d ≡ get_or decls place d
     → n + count_of sort (drop place decls) ≡ count_of sort all → behind_decl sort n d.kind + count_of sort (drop (place + 1) decls) ≡ count_of sort all
 one_counted sort n place d decls all within there is =
     let next : drop place decls ≡ d ∷ drop (place + 1) decls = drop_more decls place d within ∙ ap (λ (x : Decl). x ∷ drop (place + 1) decls) (sym there) in
-    counted_by sort n d (drop (place + 1) decls) (sort_number (sort_of d.kind) == sort_number sort) refl
+    more_counted sort n d (drop (place + 1) decls)
     ∙ (ap (λ (ds : List Decl). n + count_of sort ds) (sym next) ∙ is)

@@ -10,6 +10,7 @@ pub mod Shown
 pub mod Around
 pub mod Fits
 pub mod Places
+pub mod Numbering
 pub mod Framing
 pub mod New
 pub mod Starts

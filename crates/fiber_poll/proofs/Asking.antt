@@ -1,6 +1,6 @@
 -- Statements that ask for one call: which one, and where its entry leads.
 use Rattle.std.specs.Prelude.{IsTrue}
-use Rattle.std.proofs.Common.{◌≡◌, ◌≢◌, ℕ, zero, suc, ◌+◌, ◌<◌, ◌≤◌, ◌==◌, Bool, false, slice_get, Option, Some, None, List, [], ◌∷◌, ◌++◌, length, refl, sym, ap, subst, ◌∙◌, arith}
+use Rattle.std.proofs.Common.{◌≡◌, ◌≢◌, ℕ, zero, suc, ◌+◌, ◌<◌, ◌≤◌, ◌==◌, Bool, false, cond, slice_get, Option, Some, None, List, [], ◌∷◌, ◌++◌, length, refl, sym, ap, subst, ◌∙◌, arith}
 use Rattle.pic_machine.specs.declared.birth.Birth.{Birth}
 use Rattle.pic_machine.specs.declared.entry.Call.{Call}
 use Rattle.pic_machine.specs.declared.entry.Call.TheVariants as asked
@@ -13,20 +13,22 @@ use Rattle.pic_machine.specs.Sight.{Notes, Sight, fiber_of}
 use Rattle.script_tree.specs.declared.program.CompRef.{CompRef}
 use Rattle.script_tree.specs.declared.program.CompRef.TheVariants.{Root, Named, Promise as PromiseIn}
 use Rattle.script_tree.specs.declared.program.Decl.{Decl}
-use Rattle.script_tree.specs.declared.program.Kind.{Kind}
-use Rattle.script_tree.specs.declared.program.Kind.TheVariants.{Comp}
 use Rattle.script_tree.specs.declared.program.Stmt.{Stmt}
 use Rattle.script_tree.specs.declared.program.Stmt.TheVariants as stmt
+use Rattle.script_tree.specs.declared.thing.Sort.{Sort}
+use Rattle.script_tree.specs.declared.thing.Sort.TheVariants as sort
+use Rattle.script_tree.specs.Names.{sort_of, sort_number}
 use Rattle.script_tree.specs.Tree.{Tree}
 use Rattle.script_tree.specs.WellFormed.{IsComp, IsOfSort, StmtFits}
 use Rattle.fiber_body.specs.declared.standing.Exit.{Exit}
 use Rattle.fiber_body.specs.declared.standing.Exit.TheVariants.{Next, Raised}
 use Rattle.fiber_body.specs.declared.standing.Standing.TheVariants.{At}
 use Rattle.fiber_body.specs.Around.{Leads, Outer, Place, at_stmt, rest, within}
-use Rattle.fiber_body.specs.Context.{Context, Setting, behind_decl, comp_in, comp_numbers, limit_met, stepped, with_register}
+use Rattle.fiber_body.specs.Context.{Context, Numbering, Setting, behind_decl, comp_in, count_of, limit_met, numbering, numbers_of, stepped, with_register}
 use Rattle.fiber_body.specs.Fits.{LeadsTo, setting_of}
 use Rattle.fiber_body.specs.Follows.{context_of}
 use Rattle.fiber_body.specs.Framing.{ends_ahead, leads_entry}
+use Rattle.fiber_body.specs.Numbering.{more_counted}
 use Rattle.fiber_body.specs.Phases.{Phase, calls, ended, lives}
 use Rattle.fiber_body.specs.Segments.{happens}
 use Rattle.fiber_body.specs.Shown.{IsSameRest, Shown, carry_of}
@@ -120,7 +122,7 @@ module _ (a : Shown) (f : ℕ) (spot : Spot) (one : Stmt) (call : Call) (reply :
 
   -- and with the call's entry to where the reply leads
   pub leads_asked : IsBefore a spot one → result a.context.registers a.context.cells one ≡ None → first a.context one ≡ calls one
-      → call_of (comp_numbers 1 (script_in a.program).decls) c one ≡ Some call → LeadsTo a f mine
+      → call_of (numbering (script_in a.program).decls) c one ≡ Some call → LeadsTo a f mine
       → LeadsTo (left_by a spot (ends_by_reply c one reply).exit (ends_by_reply c one reply).context) f (mine ++ happens f call reply (born a.context call) ∷ [])
   leads_asked before none is asks leads =
       let p : Phase = replied c one reply in
@@ -134,26 +136,22 @@ module _ (a : Shown) (f : ℕ) (spot : Spot) (one : Stmt) (call : Call) (reply :
 
 -- ---- calls that a statement asks for, and behind which its turn goes on
 
-behind_one : (n : ℕ) (k : Kind) → behind_decl n k ≤ n + 1
-behind_one n Comp = omega arith
-behind_one n _ = omega arith
+-- what is declared at the place of a thing of this sort has a number below those behind all of them
+numbered : (sort : Sort) (n : ℕ) (ds : List Decl) (place : ℕ) → IsOfSort (λ s. s == sort_number sort) (slice_get ds place)
+    → (k : ℕ) × (slice_get (numbers_of sort n ds) place ≡ Some k) × (k < n + count_of sort ds)
+numbered sort n [] place is = absurd is
+numbered sort n (d ∷ ds) zero is =
+    let behind_is : behind_decl sort n d.kind ≡ n + 1 = ap (λ (b : Bool). cond b (n + 1) n) is in
+    let more = more_counted sort n d ds in
+    (n, refl, omega (arith, more, behind_is))
+numbered sort n (d ∷ ds) (suc place) is =
+    let later = numbered sort (behind_decl sort n d.kind) ds place is in
+    let more = more_counted sort n d ds in
+    (later.0, later.1, omega (arith, later.2, more))
 
-numbered : (n : ℕ) (ds : List Decl) (place : ℕ) → place < length ds → (k : ℕ) × (slice_get (comp_numbers n ds) place ≡ Some k) × (k < n + length ds)
-numbered n [] place less = absurd (omega (arith, less))
-numbered n (d ∷ ds) zero less = (n, refl, omega arith)
-numbered n (d ∷ ds) (suc place) less =
-    let later = numbered (behind_decl n d.kind) ds place (omega (arith, less)) in
-    let one = behind_one n d.kind in
-    (later.0, later.1, omega (arith, later.2, one))
-
-is_there : (decls : List Decl) (place : ℕ) (fits : ℕ → Bool) → IsOfSort fits (slice_get decls place) → place < length decls
-is_there [] place fits is = absurd is
-is_there (d ∷ ds) zero fits is = omega arith
-is_there (d ∷ ds) (suc place) fits is = let later = is_there ds place fits is in omega (arith, later)
-
-comp_there : (tree : Tree) (comp : CompRef) → IsComp tree comp → IsTrue (is_built_comp comp) → (k : ℕ) × (comp_in (comp_numbers 1 tree.decls) comp ≡ Some k) × (k ≤ length tree.decls)
+comp_there : (tree : Tree) (comp : CompRef) → IsComp tree comp → IsTrue (is_built_comp comp) → (k : ℕ) × (comp_in (numbers_of sort.Comp 1 tree.decls) comp ≡ Some k) × (k ≤ count_of sort.Comp tree.decls)
 comp_there tree Root is built = (0, refl, omega arith)
-comp_there tree (Named place) is built = let found = numbered 1 tree.decls place (is_there tree.decls place (λ s. s == 1) is) in (found.0, found.1, omega (arith, found.2))
+comp_there tree (Named place) is built = let found = numbered sort.Comp 1 tree.decls place is in (found.0, found.1, omega (arith, found.2))
 comp_there tree (PromiseIn register) is built = absurd cc
 
 -- the call, if there is one, may be made
@@ -162,17 +160,22 @@ IsAsked tree None = ⊥
 IsAsked tree (Some call) = CanAsk tree call
 
 module _ (tree : Tree) (c : Context) where
-  named : (comp : CompRef) (call : ℕ → Call) → ((k : ℕ) → k ≤ length tree.decls → CanAsk tree (call k)) → IsComp tree comp → IsTrue (is_built_comp comp) → IsAsked tree (on (comp_in (comp_numbers 1 tree.decls) comp) call)
+  named : (comp : CompRef) (call : ℕ → Call) → ((k : ℕ) → k ≤ count_of sort.Comp tree.decls → CanAsk tree (call k)) → IsComp tree comp → IsTrue (is_built_comp comp) → IsAsked tree (on (comp_in (numbers_of sort.Comp 1 tree.decls) comp) call)
   named comp call can is built = let found = comp_there tree comp is built in subst (λ (o : Option ℕ). IsAsked tree (on o call)) (sym found.1) (can found.0 found.2)
 
-  asks_by : (holder : ℕ) (one : Stmt) → StmtFits tree holder one → IsTrue (is_built_stmt one) → result c.registers c.cells one ≡ None → first c one ≡ calls one → one ≢ stmt.Yield
-      → IsAsked tree (call_of (comp_numbers 1 tree.decls) (stepped c) one)
-  asks_by holder stmt.Yield fits built none is apart = absurd (apart refl)
-  asks_by holder _ fits built none is apart = first_of (search (named, fits, built), cc)
+  signalled : (place : ℕ) → IsOfSort (λ s. s == 0) (slice_get tree.decls place) → IsAsked tree (on (slice_get (numbers_of sort.Trigger 0 tree.decls) place) (λ n. asked.Signal n))
+  signalled place is =
+      let found = numbered sort.Trigger 0 tree.decls place is in
+      subst (λ (o : Option ℕ). IsAsked tree (on o (λ n. asked.Signal n))) (sym found.1) (omega (arith, found.2))
 
-  module _ (numbers : List ℕ) (counted : numbers ≡ comp_numbers 1 tree.decls) (one : Stmt) (can : CanRun tree one) (none : result c.registers c.cells one ≡ None) (is : first c one ≡ calls one) (apart : one ≢ stmt.Yield) where
+  asks_by : (holder : ℕ) (one : Stmt) → StmtFits tree holder one → IsTrue (is_built_stmt one) → result c.registers c.cells one ≡ None → first c one ≡ calls one → one ≢ stmt.Yield
+      → IsAsked tree (call_of (numbering tree.decls) (stepped c) one)
+  asks_by holder stmt.Yield fits built none is apart = absurd (apart refl)
+  asks_by holder _ fits built none is apart = first_of (search (named, signalled, fits, built), cc)
+
+  module _ (numbers : Numbering) (counted : numbers ≡ numbering tree.decls) (one : Stmt) (can : CanRun tree one) (none : result c.registers c.cells one ≡ None) (is : first c one ≡ calls one) (apart : one ≢ stmt.Yield) where
     asked_one : (found : Option Call) → call_of numbers (stepped c) one ≡ found → IsAsked tree found
-    asked_one found same = subst (IsAsked tree) (ap (λ (ns : List ℕ). call_of ns (stepped c) one) (sym counted) ∙ same) (asks_by can.holder one can.fits can.built none is apart)
+    asked_one found same = subst (IsAsked tree) (ap (λ (ns : Numbering). call_of ns (stepped c) one) (sym counted) ∙ same) (asks_by can.holder one can.fits can.built none is apart)
 
     -- the statement asks for a call
     pub asks_some : call_of numbers (stepped c) one ≢ None
@@ -187,13 +190,14 @@ goes_on_by : (tree : Tree) (f : ℕ) (call : Call) (reply : Reply) (birth : Opti
 goes_on_by tree f (asked.Say v) reply birth can = (refl, refl)
 goes_on_by tree f (asked.Peek comp) reply birth can = (refl, refl)
 goes_on_by tree f (asked.Complete comp outcome) reply birth can = (refl, refl)
+goes_on_by tree f (asked.Signal trigger) reply birth can = (refl, refl)
 goes_on_by tree f (asked.Fork text v) reply birth can = (refl, refl)
 goes_on_by tree f _ reply birth can = absurd can
 
 -- room was made for the entry, and it was made, and the reply has ended the statement
 module _ (p q : Sight (Option Tree)) (before now : Option (List ℕ)) (tree : Tree) (spot : Spot) (one : Stmt) (call : Call) (reply : Reply) (can : CanAsk tree call) where
   on_made : (a b : Shown) → IsUp p a → IsBefore a spot one → result a.context.registers a.context.cells one ≡ None → first a.context one ≡ calls one
-      → call_of (comp_numbers 1 (script_in a.program).decls) (stepped a.context) one ≡ Some call → IsMade p q a b before now call reply
+      → call_of (numbering (script_in a.program).decls) (stepped a.context) one ≡ Some call → IsMade p q a b before now call reply
       → IsOn p q a (taken b spot (replied (stepped b.context) one reply)) before now
   on_made a b up here none is asks made =
       let f = fiber_of (carry_of a) in
@@ -208,7 +212,7 @@ module _ (p q : Sight (Option Tree)) (before now : Option (List ℕ)) (tree : Tr
       (subst (λ (d : Shown). LeadsTo d f (own (log p.front f) ++ h ∷ [])) (sym same) (leads_asked a f spot one call reply (own (log p.front f)) here none is asks up.leads))
       (behind_live spot e.exit))
 
-  pub on_called : (a b d : Shown) (numbers : List ℕ) → numbers ≡ comp_numbers 1 tree.decls → IsPortOf tree p → IsUp p a → IsBefore a spot one → result a.context.registers a.context.cells one ≡ None → first a.context one ≡ calls one
+  pub on_called : (a b d : Shown) (numbers : Numbering) → numbers ≡ numbering tree.decls → IsPortOf tree p → IsUp p a → IsBefore a spot one → result a.context.registers a.context.cells one ≡ None → first a.context one ≡ calls one
       → call_of numbers (stepped a.context) one ≡ Some call → Notes (carry_of a) (carry_of b) [] → IsSameRest a b → IsMade p q b d before now call reply
       → IsOn p q a (taken d spot (replied (stepped d.context) one reply)) before now
   on_called a b d numbers counted of up here none is asks notes same_rest made =
@@ -219,5 +223,5 @@ module _ (p q : Sight (Option Tree)) (before now : Option (List ℕ)) (tree : Tr
       on_trans on
       (on_made b d on.up (subst (λ (z : Shown). IsBefore z spot one) (sym there) (record { here = record { at = here.here.at; is = here.here.is; within = here.here.within }; steps = here.steps }))
       (subst (λ (c : Context). result c.registers c.cells one ≡ None) same none) (subst (λ (c : Context). first c one ≡ calls one) same is)
-      (subst (λ (t : Tree). call_of (comp_numbers 1 t.decls) (stepped b.context) one ≡ Some call) program
-      (subst (λ (c : Context). call_of (comp_numbers 1 tree.decls) (stepped c) one ≡ Some call) same (ap (λ (ns : List ℕ). call_of ns (stepped a.context) one) (sym counted) ∙ asks))) made)
+      (subst (λ (t : Tree). call_of (numbering t.decls) (stepped b.context) one ≡ Some call) program
+      (subst (λ (c : Context). call_of (numbering tree.decls) (stepped c) one ≡ Some call) same (ap (λ (ns : Numbering). call_of ns (stepped a.context) one) (sym counted) ∙ asks))) made)

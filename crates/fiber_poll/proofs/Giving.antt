@@ -19,15 +19,17 @@ use Rattle.pic_machine.specs.Step.{NamesStand}
 use Rattle.pic_machine.specs.Turning.{Adds, Polled, Stopped}
 use Rattle.pic_machine.proofs.Comps.{comps_stay}
 use Rattle.pic_machine.proofs.Histories.{visible-push}
+use Rattle.pic_machine.proofs.Numbers.{triggers_from}
 use Rattle.pic_machine.proofs.Owns.{own-event}
 use Rattle.pic_machine.proofs.Turns.{went_stopped}
 use Rattle.script_tree.specs.declared.program.Stmt.{Stmt}
 use Rattle.script_tree.specs.declared.program.Stmt.TheVariants.{Yield}
+use Rattle.script_tree.specs.declared.thing.Sort.TheVariants as sort
 use Rattle.script_tree.specs.Tree.{Tree}
 use Rattle.fiber_body.specs.declared.standing.Exit.TheVariants.{Next}
 use Rattle.fiber_body.specs.declared.standing.Standing.{Standing}
 use Rattle.fiber_body.specs.declared.standing.Standing.TheVariants.{Ended, Ending}
-use Rattle.fiber_body.specs.Context.{Context, block_at, stepped}
+use Rattle.fiber_body.specs.Context.{Context, block_at, count_of, stepped}
 use Rattle.fiber_body.specs.Fits.{Fits, IsOver, LeadsTo, MayBeOf, setting_of}
 use Rattle.fiber_body.specs.Follows.{context_of}
 use Rattle.fiber_body.specs.Framing.{ends_ahead, leads_entry}
@@ -49,15 +51,18 @@ use Rattle.fiber_poll.proofs.Moves.{stands_at}
 
 module _ {script : Tree} {port : Sight (Option Tree)} (of : IsPortOf script port) where
   -- a computation that is declared stands
-  comp_stands : (comp : ℕ) → comp ≤ length script.decls → comp < length (world port.origin port.front).comps
+  comp_stands : (comp : ℕ) → comp ≤ count_of sort.Comp script.decls → comp < length (world port.origin port.front).comps
   comp_stands comp there = let stay = comps_stay port.origin port.front in let few = of.comps in omega (arith, there, stay, few)
+
+  trigger_stands : (trigger : ℕ) → trigger < count_of sort.Trigger script.decls → trigger < length (world port.origin port.front).triggers
+  trigger_stands trigger there = let stay = triggers_from port.origin.world port.front in let few = of.triggers in omega (arith, there, stay, few)
 
   pub names_stand : (call : Call) → CanAsk script call → NamesStand (world port.origin port.front) call
   names_stand (asked.Peek comp) can = comp_stands comp can
   names_stand (asked.Complete comp outcome) can = comp_stands comp can
   names_stand (asked.Look trigger) can = absurd can
   names_stand (asked.Arm trigger action) can = absurd can
-  names_stand (asked.Signal trigger) can = absurd can
+  names_stand (asked.Signal trigger) can = trigger_stands trigger can
   names_stand (asked.Attach place comp trigger) can = absurd can
   names_stand _ can = tt
 

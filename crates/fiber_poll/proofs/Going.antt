@@ -1,5 +1,5 @@
 -- How a turn goes on, part by part.
-use Rattle.std.proofs.Common.{◌≡◌, ◌≢◌, ℕ, ◌<◌, ◌≤◌, false, Option, Some, List, [], ◌∷◌, ◌++◌, refl, sym, ap, subst, ◌∙◌, append-nil}
+use Rattle.std.proofs.Common.{◌≡◌, ◌≢◌, ℕ, ◌<◌, ◌≤◌, false, Option, Some, List, [], ◌∷◌, ◌++◌, OnErr, Result, Ok, Err, refl, sym, ap, subst, ◌∙◌, append-nil}
 use Rattle.pic_base.specs.declared.duty.Duty.{Duty}
 use Rattle.pic_machine.specs.declared.birth.Birth.{Birth}
 use Rattle.pic_machine.specs.declared.entry.Call.{Call}
@@ -191,3 +191,8 @@ pub gave_up_after : (p q r : Sight (Option Tree)) (fault : PortFault) → p.cont
 gave_up_after p q r Full steady calm why = why
 gave_up_after p q r Again steady calm why = rose_from p.contention q.contention r.contention steady why
 gave_up_after p q r Memory steady calm why = why ∙ calm
+
+-- what holds behind any error
+pub on_err : {A E : Type 0} (r : Result A E) (P : Type 0) → P → OnErr r P
+on_err (Ok a) P p = tt
+on_err (Err e) P p = p

@@ -1,16 +1,18 @@
--- Which programs are run so far: those that declare computations alone, and have but these statements.
+-- Which programs are run so far: those that declare triggers and computations alone, and have but these
+-- statements.
 use Rattle.std.specs.Prelude.{Bool, true, false, ◌&&◌, List}
 use Rattle.std.specs.List.{list_all}
 use Rattle.script_tree.specs.declared.program.CompRef.{CompRef}
 use Rattle.script_tree.specs.declared.program.CompRef.TheVariants.{Root, Named, Promise as PromiseIn}
 use Rattle.script_tree.specs.declared.program.Decl.{Decl}
 use Rattle.script_tree.specs.declared.program.Kind.{Kind}
-use Rattle.script_tree.specs.declared.program.Kind.TheVariants.{Comp}
+use Rattle.script_tree.specs.declared.program.Kind.TheVariants.{Trigger, Comp}
 use Rattle.script_tree.specs.declared.program.Stmt.{Stmt}
-use Rattle.script_tree.specs.declared.program.Stmt.TheVariants.{Set, Add, Sub, Mul, Put, Get, Say, Raise, Break, Return, Cancel, Peek, Spawn, Yield, If, Loop, Try}
+use Rattle.script_tree.specs.declared.program.Stmt.TheVariants.{Set, Add, Sub, Mul, Put, Get, Say, Raise, Break, Return, Cancel, Peek, Signal, Detach, Spawn, Yield, If, Loop, Try}
 use Rattle.script_tree.specs.Tree.{Tree}
 
 abbrev pub is_built_kind : Kind → Bool
+is_built_kind Trigger = true
 is_built_kind Comp = true
 is_built_kind _ = false
 
@@ -33,6 +35,8 @@ is_built_stmt Break = true
 is_built_stmt (Return r c v) = is_built_comp c
 is_built_stmt (Cancel r c v) = is_built_comp c
 is_built_stmt (Peek r q c) = is_built_comp c
+is_built_stmt (Signal t) = true
+is_built_stmt (Detach c t) = is_built_comp c
 is_built_stmt (Spawn text v) = true
 is_built_stmt Yield = true
 is_built_stmt (If a t b p q) = true

@@ -14,9 +14,11 @@ use Rattle.pic_machine.specs.Sight.{Holds, Sight, fiber_of}
 use Rattle.pic_machine.specs.Turning.{Adds, Went}
 use Rattle.script_tree.specs.declared.program.Stmt.{Stmt}
 use Rattle.script_tree.specs.declared.program.Stmt.TheVariants as stmt
+use Rattle.script_tree.specs.declared.thing.Sort.TheVariants as sort
 use Rattle.script_tree.specs.Tree.{Tree}
 use Rattle.script_tree.specs.WellFormed.{IsFiberText, StmtFits}
 use Rattle.fiber_body.specs.declared.standing.Standing.TheVariants.{Ending, Ended}
+use Rattle.fiber_body.specs.Context.{count_of}
 use Rattle.fiber_body.specs.Fits.{LeadsTo}
 use Rattle.fiber_body.specs.Segments.{happens}
 use Rattle.fiber_body.specs.Shown.{IsSameRest, Shown, carry_of}
@@ -58,8 +60,9 @@ pub record CanRun (script : Tree) (one : Stmt) : Type 0 where
 -- a call that a statement of the script may ask for, and behind which its turn goes on
 abbrev pub CanAsk : Tree → Call → Type 0
 CanAsk script (call.Say v) = ⊤
-CanAsk script (call.Peek comp) = comp ≤ length script.decls
-CanAsk script (call.Complete comp outcome) = comp ≤ length script.decls
+CanAsk script (call.Peek comp) = comp ≤ count_of sort.Comp script.decls
+CanAsk script (call.Complete comp outcome) = comp ≤ count_of sort.Comp script.decls
+CanAsk script (call.Signal trigger) = trigger < count_of sort.Trigger script.decls
 CanAsk script (call.Fork text v) = IsFiberText script text
 CanAsk script _ = ⊥
 

@@ -35,6 +35,9 @@ pub(crate) fn call_of(numbers: &Numbers, body: &Body, stmt: &Stmt) -> Option<Cal
             Some(Call::Complete { comp, outcome })
         }
         Stmt::Peek(_, _, comp) => Some(Call::Peek(numbers.comp(*comp)?)),
+        Stmt::Signal(trigger) | Stmt::Detach(_, trigger) => {
+            Some(Call::Signal(numbers.trigger(*trigger)?))
+        }
         Stmt::Spawn(text, operand) => Some(Call::Fork {
             text: *text,
             value: body.value(*operand),

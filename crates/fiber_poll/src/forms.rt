@@ -33,7 +33,7 @@ fn are_built_stmts(stmts: &[Stmt]) -> bool
 fn is_built_kind(kind: Kind) -> bool
     ensures { result ≡ is_built_kind kind }
 {
-    matches!(kind, Kind::Comp)
+    matches!(kind, Kind::Trigger | Kind::Comp)
 }
 
 fn is_built_comp(comp: CompRef) -> bool
@@ -48,10 +48,12 @@ fn is_built_stmt(stmt: &Stmt) -> bool
     match stmt {
         Stmt::Set(..) | Stmt::Add(..) | Stmt::Sub(..) | Stmt::Mul(..) => true,
         Stmt::Put(..) | Stmt::Get(..) | Stmt::Say(_) | Stmt::Spawn(..) | Stmt::Yield => true,
+        Stmt::Signal(_) => true,
         Stmt::Raise(_) | Stmt::Break | Stmt::If { .. } | Stmt::Loop(_) | Stmt::Try { .. } => true,
         Stmt::Return(_, comp, _) | Stmt::Cancel(_, comp, _) | Stmt::Peek(_, _, comp) => {
             is_built_comp(*comp)
         }
+        Stmt::Detach(comp, _) => is_built_comp(*comp),
         _ => false,
     }
 }

@@ -2,14 +2,15 @@
 ghost use Rattle.std.specs.Prelude.{◌≡◌, ◌<◌, [], IfErr, IfOk, OnErr, OnOk};
 ghost use Rattle.pic_machine.specs.Lending.{Calm, Faulted};
 ghost use Rattle.script_tree.specs.WellFormed.{IsFiberText};
-ghost use Rattle.fiber_body.specs.Shown.{IsSameRest};
+ghost use Rattle.pic_machine.specs.Sight.{CanMake};
+ghost use Rattle.fiber_body.specs.Shown.{carry_of};
 ghost use Rattle.fiber_poll.specs.Polls.{IsPortOf};
 ghost use Rattle.fiber_poll.specs.UnderWay.{CanAsk, IsMade, IsOn, IsUp};
 
 use crate::poller::ScriptPoller;
 use fiber_body::Body;
-use pic_base::Value;
-use pic_machine::{Call, Port, PortFault, ReadyLine, Reply};
+use pic_base::{Action, TriggerNo, Value};
+use pic_machine::{Call, Port, PortFault, ReadyLine, Reply, SignalReply};
 
 /// Makes the call, for whose entry there is room, and answers its reply.
 pub(crate) fn make<P: Port<Body = Body>, R: ReadyLine>(
@@ -37,9 +38,31 @@ pub(crate) fn make<P: Port<Body = Body>, R: ReadyLine>(
         Call::Complete { comp, outcome } => Ok(Reply::Completed(port.complete(
             body, comp, outcome,
         )?)),
+        Call::Signal(trigger) => Ok(Reply::Signalled(signal(port, line, body, trigger)?)),
         Call::Fork { text, value } => fork(poller, port, line, body, text, value),
         _ => unreachable!("no statement asks for another call behind which its turn goes on"),
     }
+}
+
+/// Signals the trigger, and adds the fiber that is resumed to the line, if one is.
+fn signal<P: Port<Body = Body>, R: ReadyLine>(
+    port: &mut P,
+    line: &mut R,
+    body: &mut Body,
+    trigger: TriggerNo,
+) -> Result<SignalReply, PortFault>
+    requires up { IsUp (P.sight port.old) body.old }
+    requires can { CanMake (P.sight port.old) (carry_of body.old) (Call.Signal trigger) }
+    requires free { body.old.owes ≡ [] }
+    ensures made { IfOk result (λ how. IsMade (P.sight port.old) (P.sight port.new) body.old body.new (R.told line.old) (R.told line.new) (Call.Signal trigger) (Reply.Signalled how)) }
+    ensures refused { OnErr result (IsOn (P.sight port.old) (P.sight port.new) body.old body.new (R.told line.old) (R.told line.new)) }
+    ensures gave_up { IfErr result (λ fault. Faulted fault (P.sight port.old) (P.sight port.new)) }
+{
+    let how = port.signal(body, trigger)?;
+    if let SignalReply::Acted(Action::Resume(fiber)) = how {
+        line.add(fiber);
+    }
+    Ok(how)
 }
 
 /// Makes a fiber that runs the text and is handed the value, with the current computation of this one.

@@ -28,13 +28,13 @@ impl Model for ScriptPoller {
     ghost use Rattle.std.specs.Prelude.{◌≡◌};
     ghost use Rattle.std.specs.Arc.{arc_value};
     ghost use Rattle.script_tree.specs.Tree.{Tree};
-    ghost use Rattle.fiber_body.specs.Context.{comp_numbers};
+    ghost use Rattle.fiber_body.specs.Context.{numbering};
 
     ghost Value = { Tree };
 
     ghost view = { λ p. arc_value p.program };
 
-    ghost invariant = { λ p. p.numbers ≡ comp_numbers 1 (arc_value p.program).decls };
+    ghost invariant = { λ p. p.numbers ≡ numbering (arc_value p.program).decls };
 }
 
 impl ScriptPoller {

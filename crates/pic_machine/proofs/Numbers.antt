@@ -70,7 +70,7 @@ made_place origin hs f p legal made =
 
 -- ---- triggers
 
-triggers_from : (w : State) (hs : List Happened) → length w.triggers ≤ length (world_from w hs).triggers
+pub triggers_from : (w : State) (hs : List Happened) → length w.triggers ≤ length (world_from w hs).triggers
 triggers_from w [] = omega arith
 triggers_from w (h ∷ hs) = omega (arith, triggers_stay w h.entry.call, triggers_from (after w h.entry.fiber h.entry.call) hs)
 

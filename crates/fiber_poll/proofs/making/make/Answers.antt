@@ -1,13 +1,9 @@
-use Rattle.std.proofs.Common.{OnErr, Result, Ok, Err, subst}
-use Rattle.pic_machine.specs.declared.entry.Call.TheVariants.{Complete, Peek}
+use Rattle.std.proofs.Common.{subst}
+use Rattle.pic_machine.specs.declared.entry.Call.TheVariants.{Complete, Peek, Signal}
 use Rattle.fiber_poll.specs.UnderWay.{CanAsk}
 use Rattle.fiber_poll.proofs.Giving.{names_stand}
-use Rattle.fiber_poll.proofs.Going.{can_make, on_refused}
+use Rattle.fiber_poll.proofs.Going.{can_make, on_err, on_refused}
 use Rattle.fiber_poll.proofs.making.make.Goals as goal
-
-on_err : {A E : Type 0} (r : Result A E) (P : Type 0) → P → OnErr r P
-on_err (Ok a) P p = tt
-on_err (Err e) P p = p
 
 pub returns-in_err-say-in-Say-clause-refused : goal.returns-in_err-say-in-Say-clause-refused
 returns-in_err-say-in-Say-clause-refused g c = on_err c.from_residual.result (_) (on_refused c.in_err-say-in-Say.field-0.0 c.requires.up c.in_err-say-in-Say.ensures.none c.say.ensures.rest)
@@ -25,3 +21,7 @@ complete-requires g c =
 
 pub returns-in_err-complete-in-Complete-clause-refused : goal.returns-in_err-complete-in-Complete-clause-refused
 returns-in_err-complete-in-Complete-clause-refused g c = on_err c.from_residual-in_err-complete-in-Complete.result (_) (on_refused c.in_err-complete-in-Complete.field-0.0 c.requires.up c.in_err-complete-in-Complete.ensures.none c.complete.ensures.rest)
+
+pub signal-requires-clause-can : goal.signal-requires-clause-can
+signal-requires-clause-can g c =
+    can_make c.requires.up c.requires.free c.requires.room (names_stand c.requires.port_of (Signal c.in-Signal.trigger) (subst (CanAsk c.args.poller.now) c.in-Signal.is c.requires.can)) tt tt

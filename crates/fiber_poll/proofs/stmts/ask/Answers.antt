@@ -6,7 +6,7 @@ use Rattle.pic_machine.specs.Sight.{fiber_of}
 use Rattle.pic_machine.proofs.Freeing.{lent_free}
 use Rattle.script_tree.specs.Tree.{Tree}
 use Rattle.fiber_body.specs.Segments.{happens}
-use Rattle.fiber_body.specs.Context.{Context, comp_numbers, stepped}
+use Rattle.fiber_body.specs.Context.{Context, Numbering, numbering, stepped}
 use Rattle.fiber_body.specs.Statements.{born, call_of, replied}
 use Rattle.fiber_body.specs.Shown.{Shown, carry_of}
 use Rattle.fiber_poll.specs.Moving.{taken, weight}
@@ -17,7 +17,7 @@ use Rattle.fiber_poll.proofs.stmts.ask.Goals as goal
 
 pub unreachable-requires : goal.unreachable-requires
 unreachable-requires g c =
-    let counted : c.poller.inside.numbers ≡ comp_numbers 1 c.args.poller.now.decls = subst (λ (t : Tree). c.poller.inside.numbers ≡ comp_numbers 1 t.decls) c.poller.view_is c.poller.invariant in
+    let counted : c.poller.inside.numbers ≡ numbering c.args.poller.now.decls = subst (λ (t : Tree). c.poller.inside.numbers ≡ numbering t.decls) c.poller.view_is c.poller.invariant in
     asks_some c.args.poller.now c.args.body.now.context c.poller.inside.numbers counted c.args.stmt.now c.requires.can c.requires.not_done c.requires.calls c.requires.no_yield (sym c.call_of.ensures ∙ c.in_default.is)
 
 pub returns-then-is_err-clause-on : goal.returns-then-is_err-clause-on
@@ -28,15 +28,15 @@ make-requires-clause-up g c = (on_reserved {told = g.R.ReadyLine.told c.args.lin
 
 pub make-requires-clause-can : goal.make-requires-clause-can
 make-requires-clause-can g c =
-    let counted : c.poller.inside.numbers ≡ comp_numbers 1 c.args.poller.now.decls = subst (λ (t : Tree). c.poller.inside.numbers ≡ comp_numbers 1 t.decls) c.poller.view_is c.poller.invariant in
+    let counted : c.poller.inside.numbers ≡ numbering c.args.poller.now.decls = subst (λ (t : Tree). c.poller.inside.numbers ≡ numbering t.decls) c.poller.view_is c.poller.invariant in
     can_ask c.args.poller.now c.args.body.now.context c.poller.inside.numbers counted c.args.stmt.now c.requires.can c.requires.not_done c.requires.calls c.requires.no_yield c.in-Some.call (sym c.call_of.ensures ∙ c.in-Some.is)
 
 pub returns-clause-on : goal.returns-clause-on
 returns-clause-on g c =
     let tree = c.args.poller.now in
     let b : Shown = c.args.body.now in
-    let numbers : List ℕ = c.poller.inside.numbers in
-    let counted : numbers ≡ comp_numbers 1 tree.decls = subst (λ (t : Tree). numbers ≡ comp_numbers 1 t.decls) c.poller.view_is c.poller.invariant in
+    let numbers : Numbering = c.poller.inside.numbers in
+    let counted : numbers ≡ numbering tree.decls = subst (λ (t : Tree). numbers ≡ numbering t.decls) c.poller.view_is c.poller.invariant in
     let asks : call_of numbers (stepped b.context) c.args.stmt.now ≡ Some c.in-Some.call = sym c.call_of.ensures ∙ c.in-Some.is in
     let can = can_ask tree b.context numbers counted c.args.stmt.now c.requires.can c.requires.not_done c.requires.calls c.requires.no_yield c.in-Some.call asks in
     subst (λ (d : Shown). IsOn (g.P.Port.sight c.args.port.now) (g.P.Port.sight c.make.new.port) b d (g.R.ReadyLine.told c.args.line.now) (g.R.ReadyLine.told c.make.new.line)) (sym c.take.ensures)

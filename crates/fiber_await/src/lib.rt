@@ -14,8 +14,8 @@
 //!   mark of what was owed (`Discharged`, `specs/Discharging`), so the fiber's own log, of which the meaning of
 //!   texts speaks, is as it was.
 //!
-//! It stands on `pic_base` and `pic_machine`. A lemma that who stands on it may want is `did_went` of
-//! `proofs/Running`: what these calls did is a part of the fiber's turn.
+//! It stands on `pic_base` and `pic_machine`. That what these calls did is a part of the fiber's turn is
+//! `did_went` of `proofs/Running`.
 #![tactic(auto)]
 
 mod ahead;

@@ -15,13 +15,11 @@ pub loop-duty-smaller : goal.loop-duty-smaller
 loop-duty-smaller g c = omega (arith, c.in_ok-fulfil.ensures.fewer, ap length (owes_spared _ _ _ _ c.loop-duty.invariant.done.went.holds.owes c.walk_next.ensures.spared))
 
 pub loop-duty-preserved : goal.loop-duty-preserved
-loop-duty-preserved g c =
-    let laws = g.met.P.Body.Carried in
-    record {
-      done = discharged_more _ _ _ _ _ _ _ _ _ _ _ c.loop-duty.invariant.done c.walk_next.ensures.spared c.fulfil.ensures.discharged;
-      calm = c.in_ok-fulfil.ensures.calm ∙ (c.walk_next.ensures.calm ∙ c.loop-duty.invariant.calm);
-      rest = laws.rest_after _ _ _ c.loop-duty.invariant.rest (laws.rest_after _ _ _ c.walk_next.ensures.rest c.fulfil.ensures.rest);
-    }
+loop-duty-preserved g c = record {
+  done = discharged_more _ _ _ _ _ _ _ _ _ _ _ c.loop-duty.invariant.done c.walk_next.ensures.spared c.fulfil.ensures.discharged;
+  calm = c.in_ok-fulfil.ensures.calm ∙ (c.walk_next.ensures.calm ∙ c.loop-duty.invariant.calm);
+  rest = g.met.P.Body.Carried.rest_after _ _ _ c.loop-duty.invariant.rest (g.met.P.Body.Carried.rest_after _ _ _ c.walk_next.ensures.rest c.fulfil.ensures.rest);
+}
 
 pub returns-in_err-fulfil-clause-discharged : goal.returns-in_err-fulfil-clause-discharged
 returns-in_err-fulfil-clause-discharged g c =
@@ -33,8 +31,7 @@ returns-in_err-fulfil-clause-own g c =
 
 pub returns-in_err-fulfil-clause-rest : goal.returns-in_err-fulfil-clause-rest
 returns-in_err-fulfil-clause-rest g c =
-    let laws = g.met.P.Body.Carried in
-    laws.rest_after _ _ _ c.loop-duty.invariant.rest (laws.rest_after _ _ _ c.walk_next.ensures.rest c.fulfil.ensures.rest)
+    g.met.P.Body.Carried.rest_after _ _ _ c.loop-duty.invariant.rest (g.met.P.Body.Carried.rest_after _ _ _ c.walk_next.ensures.rest c.fulfil.ensures.rest)
 
 pub returns-clause-discharged : goal.returns-clause-discharged
 returns-clause-discharged g c = Discharged-trans _ _ _ _ _ _ _ _ _ c.loop-duty.invariant.done (discharged_spared _ _ _ _ _ c.walk_next.ensures.spared)

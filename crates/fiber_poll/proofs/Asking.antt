@@ -39,21 +39,21 @@ use Rattle.fiber_poll.specs.Built.{is_built_comp, is_built_stmt}
 use Rattle.fiber_poll.specs.Polls.{IsPortOf}
 use Rattle.fiber_poll.specs.UnderWay.{CanAsk, CanRun, IsMade, IsOn, IsUp}
 use Rattle.fiber_poll.specs.Moving.{CostsStep, IsBefore, behind_at, taken, weight, weight_at}
-use Rattle.fiber_poll.proofs.Going.{on_lent, on_reserved, on_trans, program_up}
-use Rattle.fiber_poll.proofs.Moves.{behind, behind_live, costly, framed, stands_at}
+use Rattle.fiber_poll.proofs.Going.{between_live, on_lent, on_reserved, on_trans, owns_between, program_up}
+use Rattle.fiber_poll.proofs.Moves.{behind, behind_between, costly, framed, stands_at}
 
 -- ---- how such a statement begins
 
-first_stepped : (c : Context) (one : Stmt) → first c one ≡ calls one → first (stepped c) one ≡ calls one
-first_stepped c (stmt.If a test b then other) is = is
-first_stepped c _ is = is
+first_stepped : (numbers : Numbering) (c : Context) (one : Stmt) → first numbers c one ≡ calls one → first numbers (stepped c) one ≡ calls one
+first_stepped numbers c (stmt.If a test b then other) is = is
+first_stepped numbers c _ is = is
 
-costs_call : (c : Context) (one : Stmt) → first c one ≡ calls one → CostsStep one
-costs_call c (stmt.Loop block) is = absurd cc
-costs_call c _ is = tt
+costs_call : (numbers : Numbering) (c : Context) (one : Stmt) → first numbers c one ≡ calls one → CostsStep one
+costs_call numbers c (stmt.Loop block) is = absurd cc
+costs_call numbers c _ is = tt
 
-begins_call : (c : Context) (one : Stmt) → result c.registers c.cells one ≡ None → first c one ≡ calls one → begins (stepped c) one ≡ calls one
-begins_call c one none is = ap (or_first (stepped c) one) none ∙ first_stepped c one is
+begins_call : (numbers : Numbering) (c : Context) (one : Stmt) → result c.registers c.cells one ≡ None → first numbers c one ≡ calls one → begins numbers (stepped c) one ≡ calls one
+begins_call numbers c one none is = ap (or_first numbers (stepped c) one) none ∙ first_stepped numbers c one is
 
 born_stepped : (c : Context) (call : Call) → born (stepped c) call ≡ born c call
 born_stepped c (asked.Fork text v) = refl
@@ -114,14 +114,14 @@ module _ (a : Shown) (f : ℕ) (spot : Spot) (one : Stmt) (call : Call) (reply :
   LeadsThere = Leads s (lives (block_in a.program a.birth.text)) (context_of a.birth)
 
   -- the log leads to where the statement asks for its call
-  led_within : IsBefore a spot one → result a.context.registers a.context.cells one ≡ None → first a.context one ≡ calls one → LeadsTo a f mine → LeadsThere mine (within (calls one)) outer c
+  led_within : IsBefore a spot one → result a.context.registers a.context.cells one ≡ None → first (numbering (script_in a.program).decls) a.context one ≡ calls one → LeadsTo a f mine → LeadsThere mine (within (calls one)) outer c
   led_within before none is leads =
       let there : LeadsThere mine (at_stmt spot.block spot.place) (framed a.frames) a.context = subst (λ (x : Shown). LeadsTo x f mine) (stands_at a (At spot.block spot.place) before.here.at) leads in
-      subst (λ (p : Phase). LeadsThere mine (within p) outer c) (begins_call a.context one none is)
-      (λ tail y e ahead. there tail y e (costly s spot a.frames one a.context (costs_call a.context one is) before.here.is before.steps tail y e ahead))
+      subst (λ (p : Phase). LeadsThere mine (within p) outer c) (begins_call (numbering (script_in a.program).decls) a.context one none is)
+      (λ tail y e ahead. there tail y e (costly s spot a.frames one a.context (costs_call (numbering (script_in a.program).decls) a.context one is) before.here.is before.steps tail y e ahead))
 
   -- and with the call's entry to where the reply leads
-  pub leads_asked : IsBefore a spot one → result a.context.registers a.context.cells one ≡ None → first a.context one ≡ calls one
+  pub leads_asked : IsBefore a spot one → result a.context.registers a.context.cells one ≡ None → first (numbering (script_in a.program).decls) a.context one ≡ calls one
       → call_of (numbering (script_in a.program).decls) c one ≡ Some call → LeadsTo a f mine
       → LeadsTo (left_by a spot (ends_by_reply c one reply).exit (ends_by_reply c one reply).context) f (mine ++ happens f call reply (born a.context call) ∷ [])
   leads_asked before none is asks leads =
@@ -168,12 +168,12 @@ module _ (tree : Tree) (c : Context) where
       let found = numbered sort.Trigger 0 tree.decls place is in
       subst (λ (o : Option ℕ). IsAsked tree (on o (λ n. asked.Signal n))) (sym found.1) (omega (arith, found.2))
 
-  asks_by : (holder : ℕ) (one : Stmt) → StmtFits tree holder one → IsTrue (is_built_stmt one) → result c.registers c.cells one ≡ None → first c one ≡ calls one → one ≢ stmt.Yield
+  asks_by : (holder : ℕ) (one : Stmt) → StmtFits tree holder one → IsTrue (is_built_stmt one) → result c.registers c.cells one ≡ None → first (numbering tree.decls) c one ≡ calls one → one ≢ stmt.Yield
       → IsAsked tree (call_of (numbering tree.decls) (stepped c) one)
   asks_by holder stmt.Yield fits built none is apart = absurd (apart refl)
   asks_by holder _ fits built none is apart = first_of (search (named, signalled, fits, built), cc)
 
-  module _ (numbers : Numbering) (counted : numbers ≡ numbering tree.decls) (one : Stmt) (can : CanRun tree one) (none : result c.registers c.cells one ≡ None) (is : first c one ≡ calls one) (apart : one ≢ stmt.Yield) where
+  module _ (numbers : Numbering) (counted : numbers ≡ numbering tree.decls) (one : Stmt) (can : CanRun tree one) (none : result c.registers c.cells one ≡ None) (is : first (numbering tree.decls) c one ≡ calls one) (apart : one ≢ stmt.Yield) where
     asked_one : (found : Option Call) → call_of numbers (stepped c) one ≡ found → IsAsked tree found
     asked_one found same = subst (IsAsked tree) (ap (λ (ns : Numbering). call_of ns (stepped c) one) (sym counted) ∙ same) (asks_by can.holder one can.fits can.built none is apart)
 
@@ -196,7 +196,7 @@ goes_on_by tree f _ reply birth can = absurd can
 
 -- room was made for the entry, and it was made, and the reply has ended the statement
 module _ (p q : Sight (Option Tree)) (before now : Option (List ℕ)) (tree : Tree) (spot : Spot) (one : Stmt) (call : Call) (reply : Reply) (can : CanAsk tree call) where
-  on_made : (a b : Shown) → IsUp p a → IsBefore a spot one → result a.context.registers a.context.cells one ≡ None → first a.context one ≡ calls one
+  on_made : (a b : Shown) → IsUp p a → IsBefore a spot one → result a.context.registers a.context.cells one ≡ None → first (numbering (script_in a.program).decls) a.context one ≡ calls one
       → call_of (numbering (script_in a.program).decls) (stepped a.context) one ≡ Some call → IsMade p q a b before now call reply
       → IsOn p q a (taken b spot (replied (stepped b.context) one reply)) before now
   on_made a b up here none is asks made =
@@ -210,9 +210,10 @@ module _ (p q : Sight (Option Tree)) (before now : Option (List ℕ)) (tree : Tr
       subst (λ (d : Shown). IsOn p q a d before now) (sym there)
       (on_lent p q a (left_by b spot e.exit e.context) before now h up made.lent refl goes.1 refl goes.0 made.line
       (subst (λ (d : Shown). LeadsTo d f (own (log p.front f) ++ h ∷ [])) (sym same) (leads_asked a f spot one call reply (own (log p.front f)) here none is asks up.leads))
-      (behind_live spot e.exit))
+      (owns_between (script_in (left_by b spot e.exit e.context).program) f (own (log p.front f) ++ h ∷ []) (behind_at spot e.exit) (behind_between spot e.exit))
+      (between_live (behind_at spot e.exit) (behind_between spot e.exit)))
 
-  pub on_called : (a b d : Shown) (numbers : Numbering) → numbers ≡ numbering tree.decls → IsPortOf tree p → IsUp p a → IsBefore a spot one → result a.context.registers a.context.cells one ≡ None → first a.context one ≡ calls one
+  pub on_called : (a b d : Shown) (numbers : Numbering) → numbers ≡ numbering tree.decls → IsPortOf tree p → IsUp p a → IsBefore a spot one → result a.context.registers a.context.cells one ≡ None → first (numbering tree.decls) a.context one ≡ calls one
       → call_of numbers (stepped a.context) one ≡ Some call → Notes (carry_of a) (carry_of b) [] → IsSameRest a b → IsMade p q b d before now call reply
       → IsOn p q a (taken d spot (replied (stepped d.context) one reply)) before now
   on_called a b d numbers counted of up here none is asks notes same_rest made =
@@ -222,6 +223,6 @@ module _ (p q : Sight (Option Tree)) (before now : Option (List ℕ)) (tree : Tr
       let same = sym same_rest.context in
       on_trans on
       (on_made b d on.up (subst (λ (z : Shown). IsBefore z spot one) (sym there) (record { here = record { at = here.here.at; is = here.here.is; within = here.here.within }; steps = here.steps }))
-      (subst (λ (c : Context). result c.registers c.cells one ≡ None) same none) (subst (λ (c : Context). first c one ≡ calls one) same is)
+      (subst (λ (c : Context). result c.registers c.cells one ≡ None) same none) (subst (λ (t : Tree). first (numbering t.decls) b.context one ≡ calls one) program (subst (λ (c : Context). first (numbering tree.decls) c one ≡ calls one) same is))
       (subst (λ (t : Tree). call_of (numbering t.decls) (stepped b.context) one ≡ Some call) program
       (subst (λ (c : Context). call_of (numbering tree.decls) (stepped c) one ≡ Some call) same (ap (λ (ns : Numbering). call_of ns (stepped a.context) one) (sym counted) ∙ asks))) made)

@@ -31,10 +31,10 @@ pub record OwnsWait (script : Tree) (f : ℕ) (mine : List Happened) (parts : Pa
   pub place : parts.at ≡ 2 → IfSome parts.place (OwnsPlace f mine)
 
 -- an attachment of a declared trigger to the root or a declared computation
-pub record OwnsAttachment (script : Tree) (register comp trigger : ℕ) : Type 0 where
-  pub register : register < 16
-  pub comp : comp ≤ count_of sort.Comp script.decls
-  pub trigger : IsDeclared script trigger
+pub record OwnsAttachment (script : Tree) (r k t : ℕ) : Type 0 where
+  pub register : r < 16
+  pub comp : k ≤ count_of sort.Comp script.decls
+  pub trigger : IsDeclared script t
 
 abbrev pub OwnsParts : Tree → ℕ → List Happened → UnderWay → Type 0
 OwnsParts script f mine (Places trigger) = IsDeclared script trigger

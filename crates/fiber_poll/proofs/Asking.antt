@@ -40,6 +40,7 @@ use Rattle.fiber_poll.specs.Polls.{IsPortOf}
 use Rattle.fiber_poll.specs.UnderWay.{CanAsk, CanRun, IsMade, IsOn, IsUp}
 use Rattle.fiber_poll.specs.Moving.{CostsStep, IsBefore, behind_at, taken, weight, weight_at}
 use Rattle.fiber_poll.proofs.Going.{between_live, on_lent, on_reserved, on_trans, owns_between, program_up}
+use Rattle.fiber_poll.proofs.Lighter.{behind_light}
 use Rattle.fiber_poll.proofs.Moves.{behind, behind_between, costly, framed, stands_at}
 
 -- ---- how such a statement begins
@@ -81,16 +82,12 @@ left_by body spot exit c = record body { standing = behind_at spot exit; context
 taken_is : (b : Shown) (spot : Spot) (c : Context) (p : Phase) (e : EndsBy c p) → taken b spot p ≡ left_by b spot e.exit e.context
 taken_is b spot c p e = ap (taken b spot) e.is
 
-behind_weight : (spot : Spot) (x : Exit) → weight_at (behind_at spot x) ≤ 2
-behind_weight spot Next = omega arith
-behind_weight spot x = omega arith
-
 pub taken_lighter : (b : Shown) (spot : Spot) (one : Stmt) (reply : Reply) → b.standing ≡ At spot.block spot.place → 0 < b.context.steps → weight (taken b spot (replied (stepped b.context) one reply)) < weight b
 taken_lighter b spot one reply at some =
     let e = ends_by_reply (stepped b.context) one reply in
     let there : weight (taken b spot (replied (stepped b.context) one reply)) ≡ weight (left_by b spot e.exit e.context) = ap weight (taken_is b spot (stepped b.context) (replied (stepped b.context) one reply) e) in
     let before : weight_at b.standing ≡ 2 = ap weight_at at in
-    let light = behind_weight spot e.exit in
+    let light = behind_light spot e.exit in
     omega (arith, there, before, light, e.steps, some)
 
 -- what is owed doesn't change by it
@@ -137,7 +134,7 @@ module _ (a : Shown) (f : ℕ) (spot : Spot) (one : Stmt) (call : Call) (reply :
 -- ---- calls that a statement asks for, and behind which its turn goes on
 
 -- what is declared at the place of a thing of this sort has a number below those behind all of them
-numbered : (sort : Sort) (n : ℕ) (ds : List Decl) (place : ℕ) → IsOfSort (λ s. s == sort_number sort) (slice_get ds place)
+pub numbered : (sort : Sort) (n : ℕ) (ds : List Decl) (place : ℕ) → IsOfSort (λ s. s == sort_number sort) (slice_get ds place)
     → (k : ℕ) × (slice_get (numbers_of sort n ds) place ≡ Some k) × (k < n + count_of sort ds)
 numbered sort n [] place is = absurd is
 numbered sort n (d ∷ ds) zero is =
@@ -149,7 +146,7 @@ numbered sort n (d ∷ ds) (suc place) is =
     let more = more_counted sort n d ds in
     (later.0, later.1, omega (arith, later.2, more))
 
-comp_there : (tree : Tree) (comp : CompRef) → IsComp tree comp → IsTrue (is_built_comp comp) → (k : ℕ) × (comp_in (numbers_of sort.Comp 1 tree.decls) comp ≡ Some k) × (k ≤ count_of sort.Comp tree.decls)
+pub comp_there : (tree : Tree) (comp : CompRef) → IsComp tree comp → IsTrue (is_built_comp comp) → (k : ℕ) × (comp_in (numbers_of sort.Comp 1 tree.decls) comp ≡ Some k) × (k ≤ count_of sort.Comp tree.decls)
 comp_there tree Root is built = (0, refl, omega arith)
 comp_there tree (Named place) is built = let found = numbered sort.Comp 1 tree.decls place is in (found.0, found.1, omega (arith, found.2))
 comp_there tree (PromiseIn register) is built = absurd cc

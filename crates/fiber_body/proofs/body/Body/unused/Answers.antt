@@ -1,4 +1,4 @@
-use Rattle.std.proofs.Common.{reverse, ap, ◌∙◌}
+use Rattle.std.proofs.Common.{reverse, ap, ◌∙◌, true}
 use Rattle.std.specs.Option.{option_map}
 use Rattle.std.specs.Arc.{arc_value}
 use Rattle.fiber_body.specs.contracts.body.Body.{the_view}

@@ -92,9 +92,9 @@ module _ (a : Shown) (f : ℕ) (spot : Spot) (t : ℕ) (c : Context) where
       subst (λ (zs : List Happened). LeadsAmid a f spot zs (awaits_trigger t (suspending y)) c) (append_assoc mine (h ∷ []) hs) (amid_rides (mine ++ h ∷ []) later next)
 
 -- all of its entries are its fiber's own
-pub own_rides : {u : Under} {f t g : ℕ} {x y : Waiting} {es : List Happened} → GoesBy (waiting u f t) g x es y → own es ≡ es
-own_rides stays = refl
-own_rides {g = g} (goes call reply asked led later) = ap (λ (zs : List Happened). event g call reply ∷ zs) (own_rides later)
+pub own_rides : (u : Under) (f t : ℕ) {g : ℕ} {x y : Waiting} {es : List Happened} → GoesBy (waiting u f t) g x es y → own es ≡ es
+own_rides u f t stays = refl
+own_rides u f t {g} (goes call reply asked led later) = ap (λ (zs : List Happened). event g call reply ∷ zs) (own_rides u f t later)
 
 -- ---- the body stands where the statement came to
 
@@ -124,48 +124,47 @@ module _ (a b : Shown) (f : ℕ) (spot : Spot) (c : Context) (p : Phase) (mine :
       subst (λ (z : Shown). LeadsTo z f mine) (sym (is ∙ same_but (Within spot.block spot.place way) c)) (subst (λ (r : Phase). LeadsAmid a f spot mine r c) (sym phase) led)
 
   owns_reached : spot.place + 1 < 2 ^ 32 → Reached Owned b spot c p d → Owns (script_in d.program) f mine d.standing
-  owns_reached within (ends x e row is) = owns_between (script_in d.program) f mine d.standing (subst IsBetween (sym (ap (λ (z : Shown). z.standing) is)) (behind_between spot x))
-  owns_reached within (stands way phase owned is) =
+  owns_reached room (ends x e row is) = owns_between (script_in d.program) f mine d.standing (subst IsBetween (sym (ap (λ (z : Shown). z.standing) is)) (behind_between spot x))
+  owns_reached room (stands way phase owned is) =
       subst (λ (z : Shown). Owns (script_in z.program) f mine z.standing) (sym is)
-      (subst (λ (tree : Option Tree). Owns (script_in tree) f mine (Within spot.block spot.place way)) (sym program) (within, owned))
+      (subst (λ (tree : Option Tree). Owns (script_in tree) f mine (Within spot.block spot.place way)) (sym program) (room, owned))
 
   live_reached : Reached Owned b spot c p d → d.standing ≢ Ended
   live_reached (ends x e row is) = between_live d.standing (subst IsBetween (sym (ap (λ (z : Shown). z.standing) is)) (behind_between spot x))
-  live_reached (stands way phase owned is) ended = let both : Within spot.block spot.place way ≡ Ended = sym (ap (λ (z : Shown). z.standing) is) ∙ ended in absurd cc
+  live_reached (stands way phase owned is) = λ ended. (let both : Within spot.block spot.place way ≡ Ended = sym (ap (λ (z : Shown). z.standing) is) ∙ ended in cc)
 
 -- the fiber's own log grew by these entries
-own_did : (p q : Sight (Option Tree)) (a b : Carry (Option Tree)) (es : List Happened) → own es ≡ es → Did p q a b es → own (log q.front (fiber_of a)) ≡ own (log p.front (fiber_of a)) ++ es
+pub own_did : (p q : Sight (Option Tree)) (a b : Carry (Option Tree)) (es : List Happened) → own es ≡ es → Did p q a b es → own (log q.front (fiber_of a)) ≡ own (log p.front (fiber_of a)) ++ es
 own_did p q a b es free did =
     ap own did.grew.log ∙ (own-append (log p.front (fiber_of a)) es ∙ ap (λ (zs : List Happened). own (log p.front (fiber_of a)) ++ zs) free)
 
-module _ {p q : Sight (Option Tree)} {a b d : Shown} (told : Option (List ℕ)) where
-  pub on_amid : (spot : Spot) (c : Context) (ph : Phase) (es : List Happened) → IsUp p a → Did p q (carry_of a) (carry_of b) es → b.frames ≡ a.frames → own es ≡ es → spot.place + 1 < 2 ^ 32
-      → LeadsAmid a (fiber_of (carry_of a)) spot (own (log p.front (fiber_of (carry_of a))) ++ es) ph c
-      → Reached (OwnsParts (script_in a.program) (fiber_of (carry_of a)) (own (log p.front (fiber_of (carry_of a))) ++ es)) b spot c ph d → IsOn p q a d told told
-  on_amid spot c ph es up did frames free within led reached =
-      let f = fiber_of (carry_of a) in
-      let mine = own (log p.front f) ++ es in
-      let logs : own (log q.front f) ≡ mine = own_did p q (carry_of a) (carry_of b) es free did in
-      let went : Went p q (carry_of a) (carry_of d) told told = subst (λ (z : Carry (Option Tree)). Went p q (carry_of a) z told told) (sym (carry_reached b spot c ph d reached)) (did_went p q (carry_of a) (carry_of b) es told did) in
-      record {
-        went = went;
-        up = up_led q d f went.holds (same_number a d went.number) up.fiber
-            (subst (LeadsTo d f) (sym logs) (leads_reached a b f spot c ph mine d frames did.birth did.share led reached))
-            (subst (λ (xs : List Happened). Owns (script_in d.program) f xs d.standing) (sym logs) (owns_reached a b f spot c ph mine d frames did.birth did.share within reached))
-            (live_reached a b f spot c ph mine d frames did.birth did.share reached);
-      }
+pub on_amid : {p q : Sight (Option Tree)} {a b d : Shown} (told : Option (List ℕ)) (spot : Spot) (c : Context) (ph : Phase) (es : List Happened) → IsUp p a → Did p q (carry_of a) (carry_of b) es → b.frames ≡ a.frames → own es ≡ es → spot.place + 1 < 2 ^ 32
+    → LeadsAmid a (fiber_of (carry_of a)) spot (own (log p.front (fiber_of (carry_of a))) ++ es) ph c
+    → Reached (OwnsParts (script_in a.program) (fiber_of (carry_of a)) (own (log p.front (fiber_of (carry_of a))) ++ es)) b spot c ph d → IsOn p q a d told told
+on_amid {p} {q} {a} {b} {d} told spot c ph es up did frames free room led reached =
+    let f = fiber_of (carry_of a) in
+    let mine = own (log p.front f) ++ es in
+    let logs : own (log q.front f) ≡ mine = own_did p q (carry_of a) (carry_of b) es free did in
+    let went : Went p q (carry_of a) (carry_of d) told told = subst (λ (z : Carry (Option Tree)). Went p q (carry_of a) z told told) (sym (carry_reached b spot c ph d reached)) (did_went p q (carry_of a) (carry_of b) es told did) in
+    record {
+      went = went;
+      up = up_led q d f went.holds (same_number a d went.number) up.fiber
+          (subst (LeadsTo d f) (sym logs) (leads_reached a b f spot c ph mine d frames did.birth did.share led reached))
+          (subst (λ (xs : List Happened). Owns (script_in d.program) f xs d.standing) (sym logs) (owns_reached a b f spot c ph mine d frames did.birth did.share room reached))
+          (live_reached a b f spot c ph mine d frames did.birth did.share reached);
+    }
 
-  -- a call was refused, and the body stands where it stood
-  pub on_refusal : IsUp p a → Did p q (carry_of a) (carry_of d) [] → IsSameRest a d → IsOn p q a d told told
-  on_refusal up did rest =
-      let f = fiber_of (carry_of a) in
-      let mine = own (log p.front f) in
-      let logs : own (log q.front f) ≡ mine = own_did p q (carry_of a) (carry_of d) [] refl did ∙ append-nil mine in
-      let went : Went p q (carry_of a) (carry_of d) told told = did_went p q (carry_of a) (carry_of d) [] told did in
-      record {
-        went = went;
-        up = up_led q d f went.holds (same_number a d went.number) up.fiber
-            (subst (LeadsTo d f) (sym logs) (leads_same a d f mine rest did.birth did.share up.leads))
-            (subst (λ (xs : List Happened). Owns (script_in d.program) f xs d.standing) (sym logs) (owns_same a d f mine rest did.share up.owns))
-            (still_live a d rest up.live);
-      }
+-- a call was refused, and the body stands where it stood
+pub on_refusal : {p q : Sight (Option Tree)} {a d : Shown} (told : Option (List ℕ)) → IsUp p a → Did p q (carry_of a) (carry_of d) [] → IsSameRest a d → IsOn p q a d told told
+on_refusal {p} {q} {a} {d} told up did same =
+    let f = fiber_of (carry_of a) in
+    let mine = own (log p.front f) in
+    let logs : own (log q.front f) ≡ mine = own_did p q (carry_of a) (carry_of d) [] refl did ∙ append-nil mine in
+    let went : Went p q (carry_of a) (carry_of d) told told = did_went p q (carry_of a) (carry_of d) [] told did in
+    record {
+      went = went;
+      up = up_led q d f went.holds (same_number a d went.number) up.fiber
+          (subst (LeadsTo d f) (sym logs) (leads_same a d f mine same did.birth did.share up.leads))
+          (subst (λ (xs : List Happened). Owns (script_in d.program) f xs d.standing) (sym logs) (owns_same a d f mine same did.share up.owns))
+          (still_live a d same up.live);
+    }

@@ -29,10 +29,10 @@ use Rattle.fiber_body.specs.Fits.{LeadsTo, setting_of}
 use Rattle.fiber_body.specs.Follows.{context_of}
 use Rattle.fiber_body.specs.Framing.{ends_ahead, leads_entry}
 use Rattle.fiber_body.specs.Numbering.{more_counted}
-use Rattle.fiber_body.specs.Phases.{Phase, calls, ended, lives}
+use Rattle.fiber_body.specs.Phases.{Phase, attaches_to, awaits_trigger, calls, ended, lives, looking, looks}
 use Rattle.fiber_body.specs.Segments.{happens}
 use Rattle.fiber_body.specs.Shown.{IsSameRest, Shown, carry_of}
-use Rattle.fiber_body.specs.Statements.{begins, born, call_of, first, on, or_first, outcome_number, replied, result, state_number, won}
+use Rattle.fiber_body.specs.Statements.{begins, born, call_of, first, named as begins_named, on, or_first, outcome_number, replied, result, state_number, won}
 use Rattle.fiber_body.specs.Texts.{block_in, script_in}
 use Rattle.fiber_poll.specs.declared.spot.Spot.{Spot}
 use Rattle.fiber_poll.specs.Built.{is_built_comp, is_built_stmt}
@@ -168,6 +168,17 @@ module _ (tree : Tree) (c : Context) where
   asks_by : (holder : ℕ) (one : Stmt) → StmtFits tree holder one → IsTrue (is_built_stmt one) → result c.registers c.cells one ≡ None → first (numbering tree.decls) c one ≡ calls one → one ≢ stmt.Yield
       → IsAsked tree (call_of (numbering tree.decls) (stepped c) one)
   asks_by holder stmt.Yield fits built none is apart = absurd (apart refl)
+  asks_by holder (stmt.Await place) fits built none is apart =
+      let found = numbered sort.Trigger 0 tree.decls place fits.0 in
+      absurd (let there : awaits_trigger found.0 looking ≡ calls (stmt.Await place) = subst (λ (o : Option ℕ). begins_named o (stmt.Await place) (λ n. awaits_trigger n looking) ≡ calls (stmt.Await place)) found.1 is in cc)
+  asks_by holder (stmt.Attach r comp place) fits built none is apart =
+      let one : Stmt = stmt.Attach r comp place in
+      let trigger = numbered sort.Trigger 0 tree.decls place fits.2 in
+      let found = comp_there tree comp fits.1 built in
+      let triggers = numbers_of sort.Trigger 0 tree.decls in
+      absurd (let there : attaches_to r found.0 trigger.0 looks ≡ calls one =
+          subst (λ (o : Option ℕ). begins_named o one (λ n. attaches_to r found.0 n looks) ≡ calls one) trigger.1
+          (subst (λ (o : Option ℕ). begins_named o one (λ k. begins_named (slice_get triggers place) one (λ n. attaches_to r k n looks)) ≡ calls one) found.1 is) in cc)
   asks_by holder _ fits built none is apart = first_of (search (named, signalled, fits, built), cc)
 
   module _ (numbers : Numbering) (counted : numbers ≡ numbering tree.decls) (one : Stmt) (can : CanRun tree one) (none : result c.registers c.cells one ≡ None) (is : first (numbering tree.decls) c one ≡ calls one) (apart : one ≢ stmt.Yield) where

@@ -11,9 +11,9 @@ use Rattle.fiber_body.specs.Shown.{Shown}
 use Rattle.fiber_poll.specs.declared.spot.Spot.{Spot}
 use Rattle.fiber_poll.specs.Moving.{behind_at, first_of_wait, placed_for_attachment, placed_for_wait, seen_by_wait, weight, weight_at, weight_of}
 
-pub lighter_by : {a b d : Shown} (there : Standing) (e : Context) → b.frames ≡ a.frames → d ≡ record b { standing = there; context = e }
+pub lighter_by : (a b : Shown) {d : Shown} (there : Standing) (e : Context) → b.frames ≡ a.frames → d ≡ record b { standing = there; context = e }
     → weight_at there + 5 * e.steps < weight_at a.standing + 5 * a.context.steps → weight d < weight a
-lighter_by {a} {b} there e frames is less =
+lighter_by a b there e frames is less =
     let so = ap weight is in
     let same = ap (λ (fs : List Frame). length fs) frames in
     omega (arith, so, same, less)

@@ -12,7 +12,7 @@ use Rattle.pic_machine.specs.Happened.{Happened}
 use Rattle.pic_machine.specs.History.{NumbersFit, Takes, event}
 use Rattle.pic_machine.specs.Log.{is_due, is_logged, log, own}
 use Rattle.pic_machine.specs.Sight.{Carry, Sight, fiber_of}
-use Rattle.pic_machine.specs.Waits.{Waiting, arming, awake, over, told, waiting, waiting_at, waits, woken}
+use Rattle.pic_machine.specs.Waits.{Waiting, arming, awake, over, told, waiting, waiting_at, waits}
 use Rattle.pic_machine.proofs.NumbersByLog.{each_kept}
 use Rattle.fiber_await.specs.declared.ahead.Ahead.{Ahead}
 use Rattle.fiber_await.specs.declared.ahead.Ahead.TheVariants as ahead
@@ -35,12 +35,12 @@ use Rattle.fiber_poll.specs.declared.spot.Spot.{Spot}
 use Rattle.fiber_poll.specs.Moving.{behind_at, exit_of, placed, placed_for_attachment, placed_for_wait}
 use Rattle.fiber_poll.specs.UnderWay.{IsOn, IsUp}
 use Rattle.fiber_poll.proofs.Amid.{LeadsAmid, Reached, amid_rides, amid_standing, ends, on_amid, own_did, own_rides, stands}
-use Rattle.fiber_poll.proofs.Stages.{on_within, stands_there, within_up}
+use Rattle.fiber_poll.proofs.Stages.{KeptBehind, on_within, stands_there, within_up}
 
 -- ---- places
 
 -- a place that was just made is the fiber's own
-MayTake : Sight (Option Tree) → ℕ → ℕ → Type 0
+abbrev pub MayTake : Sight (Option Tree) → ℕ → ℕ → Type 0
 MayTake port f place = (comp trigger : ℕ) → NumbersFit port.origin port.front f (asked.Attach place comp trigger)
 
 owns_placed : (p q : Sight (Option Tree)) (a b : Carry (Option Tree)) (n : ℕ) → Did p q a b (event (fiber_of a) asked.NewPlace (reply.Made n) ∷ []) → MayTake q (fiber_of a) n
@@ -64,7 +64,7 @@ placed_leads u None = refl
 placed_reached : (tree : Tree) (f t : ℕ) (mine : List Happened) (b : Shown) (spot : Spot) (c : Context) (place : Option ℕ) → OwnsParts tree f mine (Places t) → IfSome place (OwnsPlace f mine)
     → Reached (OwnsParts tree f mine) b spot c (awaits_trigger t (placed_phase place)) (record b { standing = placed_for_wait spot t place; context = c })
 placed_reached tree f t mine b spot c (Some n) declared own_place =
-    stands (Awaits (record { trigger = Some t; place = Some n; second = None; at = 2 })) refl (record { known = cc; trigger = declared; at = inl refl; place = λ two. own_place }) refl
+    stands (Awaits (record { trigger = Some t; place = Some n; second = None; at = 2 })) refl (record { known = λ none. cc; trigger = declared; at = inl refl; place = λ two. own_place }) refl
 placed_reached tree f t mine b spot c None declared own_place = ends (Raised limit_met) c refl refl
 
 abbrev placed_there : Option ℕ → Attaching
@@ -86,87 +86,92 @@ if_placed : (p q : Sight (Option Tree)) (a b : Carry (Option Tree)) (place : Opt
 if_placed p q a b (Some n) did free = owns_placed p q a b n did free
 if_placed p q a b None did free = tt
 
-module _ {p q : Sight (Option Tree)} {a b d : Shown} (told : Option (List ℕ)) (spot : Spot) where
-  abbrev f : ℕ
-  f = fiber_of (carry_of a)
+pub on_placed : {p q : Sight (Option Tree)} (a b : Shown) {d : Shown} (told : Option (List ℕ)) (spot : Spot) (t : ℕ) (place : Option ℕ) (there : Standing) (steps : ℕ) → IsUp p a → a.standing ≡ Within spot.block spot.place (Places t)
+    → Did p q (carry_of a) (carry_of b) (event (fiber_of (carry_of a)) asked.NewPlace (placed place) ∷ []) → IfSome place (MayTake q (fiber_of (carry_of a))) → IsSameRest a b
+    → there ≡ placed_for_wait spot t place → steps ≡ b.context.steps → d ≡ stood b there steps → IsOn p q a d told told
+on_placed {p} {q} a b told spot t place there steps up at did free same there_is left is =
+    let f = fiber_of (carry_of a) in
+    let h : Happened = event f asked.NewPlace (placed place) in
+    let mine = own (log p.front f) ++ h ∷ [] in
+    let declared = (within_up spot (Places t) up at).1 in
+    on_within a b told spot (Places t) asked.NewPlace (placed place) (awaits_trigger t (placed_phase place)) up at refl refl
+    (ap (λ (o : Option Awaiting). option_map (awaits_trigger t) o) (placed_leads (under a.context) place)) did same
+    (subst (Reached (KeptBehind p a h) b spot a.context (awaits_trigger t (placed_phase place))) (sym (stands_there same there_is left is))
+    (placed_reached (script_in a.program) f t mine b spot a.context place declared (if_placed p q (carry_of a) (carry_of b) place did free)))
 
-  abbrev mine : List Happened
-  mine = own (log p.front f)
+pub on_placed_there : {p q : Sight (Option Tree)} (a b : Shown) {d : Shown} (told : Option (List ℕ)) (spot : Spot) (r k t : ℕ) (place : Option ℕ) (there : Standing) (steps : ℕ) → IsUp p a → a.standing ≡ Within spot.block spot.place (Attaches r k t None)
+    → Did p q (carry_of a) (carry_of b) (event (fiber_of (carry_of a)) asked.NewPlace (placed place) ∷ []) → IfSome place (MayTake q (fiber_of (carry_of a))) → IsSameRest a b
+    → there ≡ placed_for_attachment spot r k t place → steps ≡ b.context.steps → d ≡ stood b there steps → IsOn p q a d told told
+on_placed_there {p} {q} a b told spot r k t place there steps up at did free same there_is left is =
+    let f = fiber_of (carry_of a) in
+    let h : Happened = event f asked.NewPlace (placed place) in
+    let mine = own (log p.front f) ++ h ∷ [] in
+    let owned = (within_up spot (Attaches r k t None) up at).1 in
+    on_within a b told spot (Attaches r k t None) asked.NewPlace (placed place) (attaches_to r k t (placed_there place)) up at refl refl
+    (ap (λ (o : Option Attaching). option_map (attaches_to r k t) o) (there_leads place)) did same
+    (subst (Reached (KeptBehind p a h) b spot a.context (attaches_to r k t (placed_there place))) (sym (stands_there same there_is left is))
+    (there_reached (script_in a.program) f r k t mine b spot a.context place owned.0 (if_placed p q (carry_of a) (carry_of b) place did free)))
 
-  pub on_placed : (t : ℕ) (place : Option ℕ) (there : Standing) (steps : ℕ) → IsUp p a → a.standing ≡ Within spot.block spot.place (Places t) → Did p q (carry_of a) (carry_of b) (event f asked.NewPlace (placed place) ∷ []) → IfSome place (MayTake q f) → IsSameRest a b
-      → there ≡ placed_for_wait spot t place → steps ≡ b.context.steps → d ≡ stood b there steps → IsOn p q a d told told
-  on_placed t place there steps up at did free rest there_is left is =
-      let h : Happened = event f asked.NewPlace (placed place) in
-      let declared = (within_up {p} {q} {a} {b} {d} told spot (Places t) up at).1 in
-      on_within told spot (Places t) asked.NewPlace (placed place) (awaits_trigger t (placed_phase place)) up at refl refl
-      (ap (λ (o : Option Awaiting). option_map (awaits_trigger t) o) (placed_leads (under a.context) place)) did rest
-      (subst (Reached (OwnsParts (script_in a.program) f (mine ++ h ∷ [])) b spot a.context (awaits_trigger t (placed_phase place))) (sym (stands_there rest there_is left is))
-      (placed_reached (script_in a.program) f t (mine ++ h ∷ []) b spot a.context place declared (if_placed p q (carry_of a) (carry_of b) place did free)))
+-- ---- the trigger is attached
 
-  pub on_placed_there : (r k t : ℕ) (place : Option ℕ) (there : Standing) (steps : ℕ) → IsUp p a → a.standing ≡ Within spot.block spot.place (Attaches r k t None) → Did p q (carry_of a) (carry_of b) (event f asked.NewPlace (placed place) ∷ []) → IfSome place (MayTake q f) → IsSameRest a b
-      → there ≡ placed_for_attachment spot r k t place → steps ≡ b.context.steps → d ≡ stood b there steps → IsOn p q a d told told
-  on_placed_there r k t place there steps up at did free rest there_is left is =
-      let h : Happened = event f asked.NewPlace (placed place) in
-      let owned = (within_up {p} {q} {a} {b} {d} told spot (Attaches r k t None) up at).1 in
-      on_within told spot (Attaches r k t None) asked.NewPlace (placed place) (attaches_to r k t (placed_there place)) up at refl refl
-      (ap (λ (o : Option Attaching). option_map (attaches_to r k t) o) (there_leads place)) did rest
-      (subst (Reached (OwnsParts (script_in a.program) f (mine ++ h ∷ [])) b spot a.context (attaches_to r k t (placed_there place))) (sym (stands_there rest there_is left is))
-      (there_reached (script_in a.program) f r k t (mine ++ h ∷ []) b spot a.context place owned.0 (if_placed p q (carry_of a) (carry_of b) place did free)))
+pub on_attached : {p q : Sight (Option Tree)} (a b : Shown) {d : Shown} (told : Option (List ℕ)) (spot : Spot) (r k t place : ℕ) (how : AttachReply) (n : ℕ) (e : Shown) (there : Standing) (steps : ℕ) → IsUp p a → a.standing ≡ Within spot.block spot.place (Attaches r k t (Some place))
+    → Did p q (carry_of a) (carry_of b) (event (fiber_of (carry_of a)) (asked.Attach place k t) (reply.Attached how) ∷ []) → IsSameRest a b
+    → n ≡ attached_number how → e ≡ record b { context = with_register b.context r n } → there ≡ behind_at spot Next → steps ≡ e.context.steps → d ≡ stood e there steps → IsOn p q a d told told
+on_attached a b {d} told spot r k t place how n e there steps up at did same number set there_is left is =
+    let there_so : d ≡ record b { standing = behind_at spot Next; context = with_register a.context r (attached_number how) } =
+    is ∙ (ap (λ (st : Standing). stood e st steps) there_is ∙ (ap (λ (m : ℕ). stood e (behind_at spot Next) m) left
+    ∙ (ap (λ (z : Shown). record z { standing = behind_at spot Next }) set ∙ (ap (λ (m : ℕ). record b { standing = behind_at spot Next; context = with_register b.context r m }) number
+    ∙ ap (λ (x : Context). record b { standing = behind_at spot Next; context = with_register x r (attached_number how) }) same.context)))) in
+    on_within a b told spot (Attaches r k t (Some place)) (asked.Attach place k t) (reply.Attached how) (attaches_to r k t (answers (attached_number how))) up at refl refl refl did same
+    (ends Next (with_register a.context r (attached_number how)) refl there_so)
 
-  -- ---- the trigger is attached
+-- ---- a wait goes by its routine
 
-  pub on_attached : (r k t place : ℕ) (how : AttachReply) (n : ℕ) (e : Shown) (there : Standing) (steps : ℕ) → IsUp p a → a.standing ≡ Within spot.block spot.place (Attaches r k t (Some place)) → Did p q (carry_of a) (carry_of b) (event f (asked.Attach place k t) (reply.Attached how) ∷ []) → IsSameRest a b
-      → n ≡ attached_number how → e ≡ record b { context = with_register b.context r n } → there ≡ behind_at spot Next → steps ≡ e.context.steps → d ≡ stood e there steps → IsOn p q a d told told
-  on_attached r k t place how n e there steps up at did rest number set there_is left is =
-      let there_so : d ≡ record b { standing = behind_at spot Next; context = with_register a.context r (attached_number how) } =
-      is ∙ (ap (λ (st : Standing). stood e st steps) there_is ∙ (ap (λ (k : ℕ). stood e (behind_at spot Next) k) left
-      ∙ (ap (λ (z : Shown). record z { standing = behind_at spot Next }) set ∙ (ap (λ (m : ℕ). record b { standing = behind_at spot Next; context = with_register b.context r m }) number
-      ∙ ap (λ (x : Context). record b { standing = behind_at spot Next; context = with_register x r (attached_number how) }) rest.context)))) in
-      on_within told spot (Attaches r k t (Some place)) (asked.Attach place k t) (reply.Attached how) (attaches_to r k t (answers (attached_number how))) up at refl refl refl did rest
-      (ends Next (with_register a.context r (attached_number how)) refl there_so)
+rides : {p q : Sight (Option Tree)} (a b : Shown) {d : Shown} (told : Option (List ℕ)) (spot : Spot) (way : UnderWay) (t : ℕ) (x y : Waiting) → IsUp p a → a.standing ≡ Within spot.block spot.place way → phase_of a.context way ≡ awaits_trigger t (suspending x)
+    → IsSameRest a b → (ran : Ran (waiting (under a.context) (fiber_of (carry_of a)) t) p q (carry_of a) (carry_of b) x y)
+    → Reached (OwnsParts (script_in a.program) (fiber_of (carry_of a)) (own (log p.front (fiber_of (carry_of a))) ++ ran.es)) b spot a.context (awaits_trigger t (suspending y)) d → IsOn p q a d told told
+rides {p} a b told spot way t x y up at phase same ran reached =
+    let f = fiber_of (carry_of a) in
+    let mine = own (log p.front f) in
+    on_amid told spot a.context (awaits_trigger t (suspending y)) ran.es up ran.did same.frames (own_rides (under a.context) f t ran.goes) (within_up spot way up at).0
+    (amid_rides a f spot t a.context mine ran.goes (subst (λ (ph : Phase). LeadsAmid a f spot mine ph a.context) phase (amid_standing a f spot mine way at up.leads))) reached
 
-  -- ---- a wait goes by its routine
+-- its first half, up to the arming
+by_place : (P : ℕ → Type 0) (place : Option ℕ) → waits place ≡ arming → IfSome place P
+by_place P (Some n) is = absurd cc
+by_place P None is = tt
 
-  rides : (way : UnderWay) (t : ℕ) (x y : Waiting) → IsUp p a → a.standing ≡ Within spot.block spot.place way → phase_of a.context way ≡ awaits_trigger t (suspending x) → IsSameRest a b → (ran : Ran (waiting (under a.context) f t) p q (carry_of a) (carry_of b) x y)
-      → Reached (OwnsParts (script_in a.program) f (mine ++ ran.es)) b spot a.context (awaits_trigger t (suspending y)) d → IsOn p q a d told told
-  rides way t x y up at phase rest ran reached =
-      on_amid told spot a.context (awaits_trigger t (suspending y)) ran.es up ran.did rest.frames (own_rides ran.goes) (within_up {p} {q} {a} {b} {d} told spot way up at).0
-      (amid_rides a f spot t a.context mine ran.goes (subst (λ (ph : Phase). LeadsAmid a f spot mine ph a.context) phase (amid_standing a f spot mine way at up.leads))) reached
+keeps_no_place : (u : Under) (parts : Parts) (P : ℕ → Type 0) → waiting_at u parts.at parts ≡ arming → parts.at ≡ 2 → IfSome parts.place P
+keeps_no_place u parts P go two = by_place P parts.place (subst (λ (n : ℕ). waiting_at u n parts ≡ arming) two go)
 
-  -- its first half, up to the arming
-  keeps_no_place : (u : Under) (parts : Parts) (P : ℕ → Type 0) → waiting_at u parts.at parts ≡ arming → parts.at ≡ 2 → IfSome parts.place P
-  keeps_no_place u parts P go two = by_place parts.place (subst (λ (n : ℕ). waiting_at u n parts ≡ arming) two go) where
-    by_place : (place : Option ℕ) → waits place ≡ arming → IfSome place P
-    by_place (Some n) is = absurd cc
-    by_place None is = tt
+pub on_ready : {p q : Sight (Option Tree)} (a b : Shown) {d : Shown} (told : Option (List ℕ)) (spot : Spot) (parts later : Parts) (there : Standing) (steps : ℕ) → IsUp p a → a.standing ≡ Within spot.block spot.place (Awaits parts) → IsSameRest a b
+    → Ran (waiting (under a.context) (fiber_of (carry_of a)) (trigger_of parts)) p q (carry_of a) (carry_of b) (waiting_at (under a.context) parts.at parts) (waiting_at (under a.context) later.at later) → waiting_at (under a.context) later.at later ≡ arming
+    → later ≡ record parts { at = later.at } → (later.at ≡ 2) ⊎ (later.at ≡ 3) → there ≡ Within spot.block spot.place (Awaits later) → steps ≡ b.context.steps → d ≡ stood b there steps → IsOn p q a d told told
+on_ready {p} a b told spot parts later there steps up at same ran go so stage there_is left is =
+    let f = fiber_of (carry_of a) in
+    let kept = (within_up spot (Awaits parts) up at).1 in
+    let trigger : later.trigger ≡ parts.trigger = ap (λ (x : Parts). x.trigger) so in
+    let x = waiting_at (under a.context) later.at later in
+    rides a b told spot (Awaits parts) (trigger_of parts) (waiting_at (under a.context) parts.at parts) x up at refl same ran
+    (stands (Awaits later) (ap (λ (o : Option ℕ). awaits_trigger (trigger_in (record later { trigger = o })) (suspending x)) trigger)
+        (record { known = subst (λ (o : Option ℕ). o ≢ None) (sym trigger) kept.known; trigger = rw trigger kept.trigger; at = stage; place = keeps_no_place (under a.context) later (OwnsPlace f (own (log p.front f) ++ ran.es)) go })
+        (stands_there same there_is left is))
 
-  pub on_ready : (parts later : Parts) (there : Standing) (steps : ℕ) → IsUp p a → a.standing ≡ Within spot.block spot.place (Awaits parts) → IsSameRest a b
-      → Ran (waiting (under a.context) f (trigger_of parts)) p q (carry_of a) (carry_of b) (waiting_at (under a.context) parts.at parts) (waiting_at (under a.context) later.at later) → waiting_at (under a.context) later.at later ≡ arming
-      → later ≡ record parts { at = later.at } → (later.at ≡ 2) ⊎ (later.at ≡ 3) → there ≡ Within spot.block spot.place (Awaits later) → steps ≡ b.context.steps → d ≡ stood b there steps → IsOn p q a d told told
-  on_ready parts later there steps up at rest ran go same stage there_is left is =
-      let kept : OwnsWait (script_in a.program) f mine parts = (within_up {p} {q} {a} {b} {d} told spot (Awaits parts) up at).1 in
-      let trigger : later.trigger ≡ parts.trigger = ap (λ (x : Parts). x.trigger) same in
-      let x = waiting_at (under a.context) later.at later in
-      rides (Awaits parts) (trigger_of parts) (waiting_at (under a.context) parts.at parts) x up at refl rest ran
-      (stands (Awaits later) (ap (λ (o : Option ℕ). awaits_trigger (trigger_in (record later { trigger = o })) (suspending x)) trigger)
-          (record { known = subst (λ (o : Option ℕ). o ≢ None) (sym trigger) kept.known; trigger = rw trigger kept.trigger; at = stage; place = keeps_no_place (under a.context) later (OwnsPlace f (mine ++ ran.es)) go })
-          (stands_there rest there_is left is))
+-- where it was told of the cancellation
+pub on_told : {p q : Sight (Option Tree)} (a b : Shown) {d : Shown} (line : Option (List ℕ)) (spot : Spot) (parts : Parts) (code : ℕ) (there : Standing) (steps : ℕ) → IsUp p a → a.standing ≡ Within spot.block spot.place (Awaits parts) → IsSameRest a b
+    → Ran (waiting (under a.context) (fiber_of (carry_of a)) (trigger_of parts)) p q (carry_of a) (carry_of b) (waiting_at (under a.context) parts.at parts) (over (told code))
+    → there ≡ behind_at spot (Raised code) → steps ≡ b.context.steps → d ≡ stood b there steps → IsOn p q a d line line
+on_told a b line spot parts code there steps up at same ran there_is left is =
+    rides a b line spot (Awaits parts) (trigger_of parts) (waiting_at (under a.context) parts.at parts) (over (told code)) up at refl same ran (ends (Raised code) a.context refl (stands_there same there_is left is))
 
-  -- where it was told of the cancellation
-  pub on_told : (parts : Parts) (code : ℕ) (there : Standing) (steps : ℕ) → IsUp p a → a.standing ≡ Within spot.block spot.place (Awaits parts) → IsSameRest a b
-      → Ran (waiting (under a.context) f (trigger_of parts)) p q (carry_of a) (carry_of b) (waiting_at (under a.context) parts.at parts) (over (told code))
-      → there ≡ behind_at spot (Raised code) → steps ≡ b.context.steps → d ≡ stood b there steps → IsOn p q a d told told
-  on_told parts code there steps up at rest ran there_is left is =
-      rides (Awaits parts) (trigger_of parts) (waiting_at (under a.context) parts.at parts) (over (told code)) up at refl rest ran (ends (Raised code) a.context refl (stands_there rest there_is left is))
+-- its second half
+woken_row : (c : Context) (t : ℕ) (how : Ahead) → settles c (awaits_trigger t (suspending (unsuspended_at (under c) (Ok how)))) ≡ Some (ends_by (exit_of how) c)
+woken_row c t ahead.Go = refl
+woken_row c t (ahead.Cancelled code) = refl
 
-  -- its second half
-  woken_row : (c : Context) (t : ℕ) (how : Ahead) → settles c (awaits_trigger t (suspending (unsuspended_at (under c) (Ok how)))) ≡ Some (ends_by (exit_of how) c)
-  woken_row c t ahead.Go = refl
-  woken_row c t (ahead.Cancelled code) = refl
-
-  pub on_woken : (t : ℕ) (how : Ahead) (there : Standing) (steps : ℕ) → IsUp p a → a.standing ≡ Within spot.block spot.place (Awake t) → IsSameRest a b
-      → Ran (waiting (under a.context) f t) p q (carry_of a) (carry_of b) (awake (under a.context)) (unsuspended_at (under a.context) (Ok how))
-      → there ≡ behind_at spot (exit_of how) → steps ≡ b.context.steps → d ≡ stood b there steps → IsOn p q a d told told
-  on_woken t how there steps up at rest ran there_is left is =
-      rides (Awake t) t (awake (under a.context)) (unsuspended_at (under a.context) (Ok how)) up at refl rest ran
-      (ends (exit_of how) a.context (woken_row a.context t how) (stands_there rest there_is left is))
+pub on_woken : {p q : Sight (Option Tree)} (a b : Shown) {d : Shown} (line : Option (List ℕ)) (spot : Spot) (t : ℕ) (how : Ahead) (there : Standing) (steps : ℕ) → IsUp p a → a.standing ≡ Within spot.block spot.place (Awake t) → IsSameRest a b
+    → Ran (waiting (under a.context) (fiber_of (carry_of a)) t) p q (carry_of a) (carry_of b) (awake (under a.context)) (unsuspended_at (under a.context) (Ok how))
+    → there ≡ behind_at spot (exit_of how) → steps ≡ b.context.steps → d ≡ stood b there steps → IsOn p q a d line line
+on_woken a b line spot t how there steps up at same ran there_is left is =
+    rides a b line spot (Awake t) t (awake (under a.context)) (unsuspended_at (under a.context) (Ok how)) up at refl same ran
+    (ends (exit_of how) a.context (woken_row a.context t how) (stands_there same there_is left is))

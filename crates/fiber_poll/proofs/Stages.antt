@@ -28,34 +28,34 @@ use Rattle.fiber_poll.proofs.Amid.{Reached, amid_begun, amid_entry, amid_standin
 
 -- ---- one call of a statement
 
-module _ {p q : Sight (Option Tree)} {a b d : Shown} (told : Option (List ℕ)) (spot : Spot) where
-  abbrev f : ℕ
-  f = fiber_of (carry_of a)
+-- what the body may keep behind an entry
+abbrev pub KeptBehind : Sight (Option Tree) → Shown → Happened → UnderWay → Type 0
+KeptBehind p a h = OwnsParts (script_in a.program) (fiber_of (carry_of a)) (own (log p.front (fiber_of (carry_of a))) ++ h ∷ [])
 
-  abbrev mine : List Happened
-  mine = own (log p.front f)
+-- the first one, for which the step is made
+pub on_begun : {p q : Sight (Option Tree)} (a b : Shown) {d : Shown} (told : Option (List ℕ)) (spot : Spot) (one : Stmt) (call : Call) (re : Reply) (first next : Phase) → IsUp p a → IsBefore a spot one → CostsStep one
+    → begins (numbering (script_in a.program).decls) (stepped a.context) one ≡ first → born (stepped a.context) call ≡ None → asks (setting_of a (fiber_of (carry_of a))) (stepped a.context) first ≡ Some call → leads (stepped a.context) first re ≡ Some next
+    → Did p q (carry_of a) (carry_of b) (event (fiber_of (carry_of a)) call re ∷ []) → IsSameRest a b → Reached (KeptBehind p a (event (fiber_of (carry_of a)) call re)) b spot (stepped a.context) next d → IsOn p q a d told told
+on_begun {p} a b told spot one call re first next up before costs begins_so none asked led did same reached =
+    let f = fiber_of (carry_of a) in
+    let mine = own (log p.front f) in
+    on_amid told spot (stepped a.context) next (event f call re ∷ []) up did same.frames refl before.here.within
+    (amid_entry a f spot mine first next (stepped a.context) call re none asked led (amid_begun a f spot mine one first before costs begins_so up.leads)) reached
 
-  -- what the body may keep behind an entry
-  abbrev KeptBehind : Happened → UnderWay → Type 0
-  KeptBehind h = OwnsParts (script_in a.program) f (mine ++ h ∷ [])
+-- what a body keeps that stands within a statement, behind which there is a place
+pub within_up : {p : Sight (Option Tree)} {a : Shown} (spot : Spot) (way : UnderWay) → IsUp p a → a.standing ≡ Within spot.block spot.place way
+    → (spot.place + 1 < 2 ^ 32) × OwnsParts (script_in a.program) (fiber_of (carry_of a)) (own (log p.front (fiber_of (carry_of a)))) way
+within_up {p} {a} spot way up at = subst (Owns (script_in a.program) (fiber_of (carry_of a)) (own (log p.front (fiber_of (carry_of a))))) at up.owns
 
-  -- the first one, for which the step is made
-  pub on_begun : (one : Stmt) (call : Call) (re : Reply) (first next : Phase) → IsUp p a → IsBefore a spot one → CostsStep one → begins (numbering (script_in a.program).decls) (stepped a.context) one ≡ first → born (stepped a.context) call ≡ None
-      → asks (setting_of a f) (stepped a.context) first ≡ Some call → leads (stepped a.context) first re ≡ Some next → Did p q (carry_of a) (carry_of b) (event f call re ∷ []) → IsSameRest a b → Reached (KeptBehind (event f call re)) b spot (stepped a.context) next d → IsOn p q a d told told
-  on_begun one call re first next up before costs begins_so none asked led did rest reached =
-      on_amid told spot (stepped a.context) next (event f call re ∷ []) up did rest.frames refl before.here.within
-      (amid_entry a f spot mine first next (stepped a.context) call re none asked led (amid_begun a f spot mine one first before costs begins_so up.leads)) reached
-
-  -- the place of a statement that is under way has one behind it
-  pub within_up : (way : UnderWay) → IsUp p a → a.standing ≡ Within spot.block spot.place way → (spot.place + 1 < 2 ^ 32) × OwnsParts (script_in a.program) f mine way
-  within_up way up at = subst (Owns (script_in a.program) f mine) at up.owns
-
-  -- a further one
-  pub on_within : (way : UnderWay) (call : Call) (re : Reply) (next : Phase) → IsUp p a → a.standing ≡ Within spot.block spot.place way → born a.context call ≡ None
-      → asks (setting_of a f) a.context (phase_of a.context way) ≡ Some call → leads a.context (phase_of a.context way) re ≡ Some next → Did p q (carry_of a) (carry_of b) (event f call re ∷ []) → IsSameRest a b → Reached (KeptBehind (event f call re)) b spot a.context next d → IsOn p q a d told told
-  on_within way call re next up at none asked led did rest reached =
-      on_amid told spot a.context next (event f call re ∷ []) up did rest.frames refl (within_up way up at).0
-      (amid_entry a f spot mine (phase_of a.context way) next a.context call re none asked led (amid_standing a f spot mine way at up.leads)) reached
+-- a further one
+pub on_within : {p q : Sight (Option Tree)} (a b : Shown) {d : Shown} (told : Option (List ℕ)) (spot : Spot) (way : UnderWay) (call : Call) (re : Reply) (next : Phase) → IsUp p a → a.standing ≡ Within spot.block spot.place way → born a.context call ≡ None
+    → asks (setting_of a (fiber_of (carry_of a))) a.context (phase_of a.context way) ≡ Some call → leads a.context (phase_of a.context way) re ≡ Some next → Did p q (carry_of a) (carry_of b) (event (fiber_of (carry_of a)) call re ∷ []) → IsSameRest a b
+    → Reached (KeptBehind p a (event (fiber_of (carry_of a)) call re)) b spot a.context next d → IsOn p q a d told told
+on_within {p} a b told spot way call re next up at none asked led did same reached =
+    let f = fiber_of (carry_of a) in
+    let mine = own (log p.front f) in
+    on_amid told spot a.context next (event f call re ∷ []) up did same.frames refl (within_up spot way up at).0
+    (amid_entry a f spot mine (phase_of a.context way) next a.context call re none asked led (amid_standing a f spot mine way at up.leads)) reached
 
 -- ---- where the body stands then
 

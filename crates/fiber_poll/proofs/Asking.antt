@@ -173,8 +173,8 @@ module _ (tree : Tree) (c : Context) where
       absurd (let there : awaits_trigger found.0 looking ≡ calls (stmt.Await place) = subst (λ (o : Option ℕ). begins_named o (stmt.Await place) (λ n. awaits_trigger n looking) ≡ calls (stmt.Await place)) found.1 is in cc)
   asks_by holder (stmt.Attach r comp place) fits built none is apart =
       let one : Stmt = stmt.Attach r comp place in
-      let trigger = numbered sort.Trigger 0 tree.decls place fits.2 in
-      let found = comp_there tree comp fits.1 built in
+      let trigger = numbered sort.Trigger 0 tree.decls place fits.1.1.0 in
+      let found = comp_there tree comp fits.1.0 built in
       let triggers = numbers_of sort.Trigger 0 tree.decls in
       absurd (let there : attaches_to r found.0 trigger.0 looks ≡ calls one =
           subst (λ (o : Option ℕ). begins_named o one (λ n. attaches_to r found.0 n looks) ≡ calls one) trigger.1

@@ -53,10 +53,10 @@ use Rattle.fiber_poll.proofs.Moves.{stands_at}
 
 module _ {script : Tree} {port : Sight (Option Tree)} (of : IsPortOf script port) where
   -- a computation that is declared stands
-  comp_stands : (comp : ℕ) → comp ≤ count_of sort.Comp script.decls → comp < length (world port.origin port.front).comps
+  pub comp_stands : (comp : ℕ) → comp ≤ count_of sort.Comp script.decls → comp < length (world port.origin port.front).comps
   comp_stands comp there = let stay = comps_stay port.origin port.front in let few = of.comps in omega (arith, there, stay, few)
 
-  trigger_stands : (trigger : ℕ) → trigger < count_of sort.Trigger script.decls → trigger < length (world port.origin port.front).triggers
+  pub trigger_stands : (trigger : ℕ) → trigger < count_of sort.Trigger script.decls → trigger < length (world port.origin port.front).triggers
   trigger_stands trigger there = let stay = triggers_from port.origin.world port.front in let few = of.triggers in omega (arith, there, stay, few)
 
   pub names_stand : (call : Call) → CanAsk script call → NamesStand (world port.origin port.front) call

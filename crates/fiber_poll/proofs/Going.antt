@@ -9,7 +9,7 @@ use Rattle.pic_machine.specs.declared.port.PortFault.TheVariants.{Full, Again, M
 use Rattle.pic_machine.specs.State.{owed_of}
 use Rattle.pic_machine.specs.Duty.{DutiesAllow}
 use Rattle.pic_machine.specs.Step.{ArmsOwn, NamesStand}
-use Rattle.pic_machine.specs.History.{NumbersFit, world}
+use Rattle.pic_machine.specs.History.{MayMake, NumbersFit, world}
 use Rattle.pic_machine.specs.Log.{is_turn, log, own}
 use Rattle.pic_machine.specs.Order.{GoesOn, readied}
 use Rattle.pic_machine.specs.Sight.{CanMake, Carry, Holds, Notes, Sight, fiber_of}
@@ -36,22 +36,22 @@ allowed_free : (duties : List Duty) (call : Call) → duties ≡ [] → DutiesAl
 allowed_free duties call none = subst (λ (ds : List Duty). DutiesAllow ds call) (sym none) tt
 
 -- a fiber that owes nothing may make whatever names what stands, and what it may use
+pub may_make : {port : Sight (Option Tree)} {body : Shown} {call : Call} → IsUp port body → body.owes ≡ [] → NamesStand (world port.origin port.front) call → ArmsOwn (fiber_of (carry_of body)) call
+    → NumbersFit port.origin port.front (fiber_of (carry_of body)) call → MayMake port.origin port.front (fiber_of (carry_of body)) call
+may_make {port} {body} {call} up free names own numbers = record {
+  allowed = record {
+    caller = up.holds.acts;
+    clock = λ clock. absurd (up.fiber clock);
+    duties = allowed_free (owed_of (world port.origin port.front) (fiber_of (carry_of body))) call (sym up.holds.owes ∙ free);
+    names = names;
+    own = own;
+  };
+  numbers = numbers;
+}
+
 pub can_make : {port : Sight (Option Tree)} {body : Shown} {call : Call} → IsUp port body → body.owes ≡ [] → 0 < body.room → NamesStand (world port.origin port.front) call
     → ArmsOwn (fiber_of (carry_of body)) call → NumbersFit port.origin port.front (fiber_of (carry_of body)) call → CanMake port (carry_of body) call
-can_make {port} {body} {call} up free room names own numbers = record {
-  holds = up.holds;
-  may = record {
-    allowed = record {
-      caller = up.holds.acts;
-      clock = λ clock. absurd (up.fiber clock);
-      duties = allowed_free (owed_of (world port.origin port.front) (fiber_of (carry_of body))) call (sym up.holds.owes ∙ free);
-      names = names;
-      own = own;
-    };
-    numbers = numbers;
-  };
-  room = room;
-}
+can_make up free room names own numbers = record { holds = up.holds; may = may_make up free names own numbers; room = room }
 
 -- ---- bodies that are up
 

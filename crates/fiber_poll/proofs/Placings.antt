@@ -86,55 +86,59 @@ if_placed : (p q : Sight (Option Tree)) (a b : Carry (Option Tree)) (place : Opt
 if_placed p q a b (Some n) did free = owns_placed p q a b n did free
 if_placed p q a b None did free = tt
 
-pub on_placed : {p q : Sight (Option Tree)} (a b : Shown) {d : Shown} (told : Option (List ℕ)) (spot : Spot) (t : ℕ) (place : Option ℕ) (there : Standing) (steps : ℕ) → IsUp p a → a.standing ≡ Within spot.block spot.place (Places t)
+pub on_placed : {p q : Sight (Option Tree)} (a b : Shown) {d : Shown} (line : Option (List ℕ)) (spot : Spot) (t : ℕ) (place : Option ℕ) (there : Standing) (steps : ℕ) → IsUp p a → a.standing ≡ Within spot.block spot.place (Places t)
     → Did p q (carry_of a) (carry_of b) (event (fiber_of (carry_of a)) asked.NewPlace (placed place) ∷ []) → IfSome place (MayTake q (fiber_of (carry_of a))) → IsSameRest a b
-    → there ≡ placed_for_wait spot t place → steps ≡ b.context.steps → d ≡ stood b there steps → IsOn p q a d told told
-on_placed {p} {q} a b told spot t place there steps up at did free same there_is left is =
+    → there ≡ placed_for_wait spot t place → steps ≡ b.context.steps → d ≡ stood b there steps → IsOn p q a d line line
+on_placed {p} {q} a b line spot t place there steps up at did free same there_is left is =
     let f = fiber_of (carry_of a) in
     let h : Happened = event f asked.NewPlace (placed place) in
     let mine = own (log p.front f) ++ h ∷ [] in
     let declared = (within_up spot (Places t) up at).1 in
-    on_within a b told spot (Places t) asked.NewPlace (placed place) (awaits_trigger t (placed_phase place)) up at refl refl
+    on_within a b line spot (Places t) asked.NewPlace (placed place) (awaits_trigger t (placed_phase place)) up at refl refl
     (ap (λ (o : Option Awaiting). option_map (awaits_trigger t) o) (placed_leads (under a.context) place)) did same
     (subst (Reached (KeptBehind p a h) b spot a.context (awaits_trigger t (placed_phase place))) (sym (stands_there same there_is left is))
     (placed_reached (script_in a.program) f t mine b spot a.context place declared (if_placed p q (carry_of a) (carry_of b) place did free)))
 
-pub on_placed_there : {p q : Sight (Option Tree)} (a b : Shown) {d : Shown} (told : Option (List ℕ)) (spot : Spot) (r k t : ℕ) (place : Option ℕ) (there : Standing) (steps : ℕ) → IsUp p a → a.standing ≡ Within spot.block spot.place (Attaches r k t None)
+pub on_placed_there : {p q : Sight (Option Tree)} (a b : Shown) {d : Shown} (line : Option (List ℕ)) (spot : Spot) (r k t : ℕ) (place : Option ℕ) (there : Standing) (steps : ℕ) → IsUp p a → a.standing ≡ Within spot.block spot.place (Attaches r k t None)
     → Did p q (carry_of a) (carry_of b) (event (fiber_of (carry_of a)) asked.NewPlace (placed place) ∷ []) → IfSome place (MayTake q (fiber_of (carry_of a))) → IsSameRest a b
-    → there ≡ placed_for_attachment spot r k t place → steps ≡ b.context.steps → d ≡ stood b there steps → IsOn p q a d told told
-on_placed_there {p} {q} a b told spot r k t place there steps up at did free same there_is left is =
+    → there ≡ placed_for_attachment spot r k t place → steps ≡ b.context.steps → d ≡ stood b there steps → IsOn p q a d line line
+on_placed_there {p} {q} a b line spot r k t place there steps up at did free same there_is left is =
     let f = fiber_of (carry_of a) in
     let h : Happened = event f asked.NewPlace (placed place) in
     let mine = own (log p.front f) ++ h ∷ [] in
     let owned = (within_up spot (Attaches r k t None) up at).1 in
-    on_within a b told spot (Attaches r k t None) asked.NewPlace (placed place) (attaches_to r k t (placed_there place)) up at refl refl
+    on_within a b line spot (Attaches r k t None) asked.NewPlace (placed place) (attaches_to r k t (placed_there place)) up at refl refl
     (ap (λ (o : Option Attaching). option_map (attaches_to r k t) o) (there_leads place)) did same
     (subst (Reached (KeptBehind p a h) b spot a.context (attaches_to r k t (placed_there place))) (sym (stands_there same there_is left is))
     (there_reached (script_in a.program) f r k t mine b spot a.context place owned.0 (if_placed p q (carry_of a) (carry_of b) place did free)))
 
 -- ---- the trigger is attached
 
-pub on_attached : {p q : Sight (Option Tree)} (a b : Shown) {d : Shown} (told : Option (List ℕ)) (spot : Spot) (r k t place : ℕ) (how : AttachReply) (n : ℕ) (e : Shown) (there : Standing) (steps : ℕ) → IsUp p a → a.standing ≡ Within spot.block spot.place (Attaches r k t (Some place))
+pub on_attached : {p q : Sight (Option Tree)} (a b : Shown) {d : Shown} (line : Option (List ℕ)) (spot : Spot) (r k t place : ℕ) (how : AttachReply) (n : ℕ) (e : Shown) (there : Standing) (steps : ℕ) → IsUp p a → a.standing ≡ Within spot.block spot.place (Attaches r k t (Some place))
     → Did p q (carry_of a) (carry_of b) (event (fiber_of (carry_of a)) (asked.Attach place k t) (reply.Attached how) ∷ []) → IsSameRest a b
-    → n ≡ attached_number how → e ≡ record b { context = with_register b.context r n } → there ≡ behind_at spot Next → steps ≡ e.context.steps → d ≡ stood e there steps → IsOn p q a d told told
-on_attached a b {d} told spot r k t place how n e there steps up at did same number set there_is left is =
+    → n ≡ attached_number how → e ≡ record b { context = with_register b.context r n } → there ≡ behind_at spot Next → steps ≡ e.context.steps → d ≡ stood e there steps → IsOn p q a d line line
+on_attached a b {d} line spot r k t place how n e there steps up at did same number set there_is left is =
     let there_so : d ≡ record b { standing = behind_at spot Next; context = with_register a.context r (attached_number how) } =
     is ∙ (ap (λ (st : Standing). stood e st steps) there_is ∙ (ap (λ (m : ℕ). stood e (behind_at spot Next) m) left
     ∙ (ap (λ (z : Shown). record z { standing = behind_at spot Next }) set ∙ (ap (λ (m : ℕ). record b { standing = behind_at spot Next; context = with_register b.context r m }) number
     ∙ ap (λ (x : Context). record b { standing = behind_at spot Next; context = with_register x r (attached_number how) }) same.context)))) in
-    on_within a b told spot (Attaches r k t (Some place)) (asked.Attach place k t) (reply.Attached how) (attaches_to r k t (answers (attached_number how))) up at refl refl refl did same
+    on_within a b line spot (Attaches r k t (Some place)) (asked.Attach place k t) (reply.Attached how) (attaches_to r k t (answers (attached_number how))) up at refl refl refl did same
     (ends Next (with_register a.context r (attached_number how)) refl there_so)
 
 -- ---- a wait goes by its routine
 
-rides : {p q : Sight (Option Tree)} (a b : Shown) {d : Shown} (told : Option (List ℕ)) (spot : Spot) (way : UnderWay) (t : ℕ) (x y : Waiting) → IsUp p a → a.standing ≡ Within spot.block spot.place way → phase_of a.context way ≡ awaits_trigger t (suspending x)
+rides : {p q : Sight (Option Tree)} (a b : Shown) {d : Shown} (line : Option (List ℕ)) (spot : Spot) (way : UnderWay) (t : ℕ) (x y : Waiting) → IsUp p a → a.standing ≡ Within spot.block spot.place way → phase_of a.context way ≡ awaits_trigger t (suspending x)
     → IsSameRest a b → (ran : Ran (waiting (under a.context) (fiber_of (carry_of a)) t) p q (carry_of a) (carry_of b) x y)
-    → Reached (OwnsParts (script_in a.program) (fiber_of (carry_of a)) (own (log p.front (fiber_of (carry_of a))) ++ ran.es)) b spot a.context (awaits_trigger t (suspending y)) d → IsOn p q a d told told
-rides {p} a b told spot way t x y up at phase same ran reached =
+    → Reached (OwnsParts (script_in a.program) (fiber_of (carry_of a)) (own (log p.front (fiber_of (carry_of a))) ++ ran.es)) b spot a.context (awaits_trigger t (suspending y)) d → IsOn p q a d line line
+rides {p} a b line spot way t x y up at phase same ran reached =
     let f = fiber_of (carry_of a) in
     let mine = own (log p.front f) in
-    on_amid told spot a.context (awaits_trigger t (suspending y)) ran.es up ran.did same.frames (own_rides (under a.context) f t ran.goes) (within_up spot way up at).0
+    on_amid line spot a.context (awaits_trigger t (suspending y)) ran.es up ran.did same.frames (own_rides (under a.context) f t ran.goes) (within_up spot way up at).0
     (amid_rides a f spot t a.context mine ran.goes (subst (λ (ph : Phase). LeadsAmid a f spot mine ph a.context) phase (amid_standing a f spot mine way at up.leads))) reached
+
+-- the same, of what the fiber waits under
+pub ran_under : {p q : Sight (Option Tree)} {a b : Carry (Option Tree)} {f t : ℕ} {u v : Under} (x y : Under → Waiting) → u ≡ v → Ran (waiting u f t) p q a b (x u) (y u) → Ran (waiting v f t) p q a b (x v) (y v)
+ran_under {p} {q} {a} {b} {f} {t} x y same ran = subst (λ (w : Under). Ran (waiting w f t) p q a b (x w) (y w)) same ran
 
 -- its first half, up to the arming
 by_place : (P : ℕ → Type 0) (place : Option ℕ) → waits place ≡ arming → IfSome place P
@@ -144,15 +148,15 @@ by_place P None is = tt
 keeps_no_place : (u : Under) (parts : Parts) (P : ℕ → Type 0) → waiting_at u parts.at parts ≡ arming → parts.at ≡ 2 → IfSome parts.place P
 keeps_no_place u parts P go two = by_place P parts.place (subst (λ (n : ℕ). waiting_at u n parts ≡ arming) two go)
 
-pub on_ready : {p q : Sight (Option Tree)} (a b : Shown) {d : Shown} (told : Option (List ℕ)) (spot : Spot) (parts later : Parts) (there : Standing) (steps : ℕ) → IsUp p a → a.standing ≡ Within spot.block spot.place (Awaits parts) → IsSameRest a b
+pub on_ready : {p q : Sight (Option Tree)} (a b : Shown) {d : Shown} (line : Option (List ℕ)) (spot : Spot) (parts later : Parts) (there : Standing) (steps : ℕ) → IsUp p a → a.standing ≡ Within spot.block spot.place (Awaits parts) → IsSameRest a b
     → Ran (waiting (under a.context) (fiber_of (carry_of a)) (trigger_of parts)) p q (carry_of a) (carry_of b) (waiting_at (under a.context) parts.at parts) (waiting_at (under a.context) later.at later) → waiting_at (under a.context) later.at later ≡ arming
-    → later ≡ record parts { at = later.at } → (later.at ≡ 2) ⊎ (later.at ≡ 3) → there ≡ Within spot.block spot.place (Awaits later) → steps ≡ b.context.steps → d ≡ stood b there steps → IsOn p q a d told told
-on_ready {p} a b told spot parts later there steps up at same ran go so stage there_is left is =
+    → later ≡ record parts { at = later.at } → (later.at ≡ 2) ⊎ (later.at ≡ 3) → there ≡ Within spot.block spot.place (Awaits later) → steps ≡ b.context.steps → d ≡ stood b there steps → IsOn p q a d line line
+on_ready {p} a b line spot parts later there steps up at same ran go so stage there_is left is =
     let f = fiber_of (carry_of a) in
     let kept = (within_up spot (Awaits parts) up at).1 in
     let trigger : later.trigger ≡ parts.trigger = ap (λ (x : Parts). x.trigger) so in
     let x = waiting_at (under a.context) later.at later in
-    rides a b told spot (Awaits parts) (trigger_of parts) (waiting_at (under a.context) parts.at parts) x up at refl same ran
+    rides a b line spot (Awaits parts) (trigger_of parts) (waiting_at (under a.context) parts.at parts) x up at refl same ran
     (stands (Awaits later) (ap (λ (o : Option ℕ). awaits_trigger (trigger_in (record later { trigger = o })) (suspending x)) trigger)
         (record { known = subst (λ (o : Option ℕ). o ≢ None) (sym trigger) kept.known; trigger = rw trigger kept.trigger; at = stage; place = keeps_no_place (under a.context) later (OwnsPlace f (own (log p.front f) ++ ran.es)) go })
         (stands_there same there_is left is))

@@ -80,7 +80,11 @@ impl Counted {
         requires { number ≤ 1000 }
         ensures { result ≡ behind_decl (sort_counted self) number kind }
     {
-        if self.counts(kind) { number + 1 } else { number }
+        if self.counts(kind) {
+            number + 1
+        } else {
+            number
+        }
     }
 }
 

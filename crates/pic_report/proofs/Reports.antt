@@ -20,7 +20,7 @@ use Rattle.script_tree.specs.Tree.{Tree}
 use Rattle.fiber_body.specs.Context.{count_of}
 use Rattle.pic_report.specs.declared.view.FiberView.{FiberView}
 use Rattle.pic_report.specs.declared.view.RunView.{RunView}
-use Rattle.pic_report.specs.Report.{comps_lines, comp_decls, comp_names, fiber_lines, fibers_lines, joined, name_of_birth, report, report_lines, run_line, suspended_count, text_names, trace_lines}
+use Rattle.pic_report.specs.Report.{comps_lines, comp_decls, comp_names, fiber_lines, fibers_lines, joined, name_of_birth, report, report_lines, text_names, trace_lines}
 use Rattle.pic_report.specs.View.{BeginsRunning, IsFiberView, IsTraceOf, IsViewOf, all_entries, states_of, told_lines, traced_lines, view_lines, view_text, viewed_lines, views_lines}
 use Rattle.pic_report.proofs.Told.{all_tell}
 

@@ -1,5 +1,5 @@
 -- What a run begins with: the start, the bodies of main and of the clock, and the port.
-use Rattle.std.proofs.Common.{◌≡◌, ◌+◌, ◌≤◌, true, Option, Some, None, List, [], length, refl, sym, ap, subst, ◌∙◌, arith}
+use Rattle.std.proofs.Common.{◌≡◌, ◌+◌, ◌≤◌, true, Option, Some, None, [], length, refl, sym, ap, subst, ◌∙◌, arith}
 use Rattle.std.proofs.lemmas.List.{length-replicate}
 use Rattle.pic_machine.specs.declared.birth.Birth.{Birth}
 use Rattle.pic_machine.specs.declared.state.CompState.TheVariants.{Running}

@@ -94,7 +94,9 @@ fn what_signal_and_detach_refuse(rt: HostRuntime) -> Result<(), Fail> {
         ("detach p0 t", "refused line 0 cause 0\n"),
     ];
     for (statement, text) in table {
-        let script = format!(in rt.alloc(); "picos 1\ncomp c\ntrigger t\nmain\n{statement}\nend\n")?;
+        let script = format!(in rt.alloc();
+            "picos 1\ncomp c\ntrigger t\nmain\n{statement}\nend\n"
+        )?;
         let words = ["run", "a", "b"];
         expect_answer(
             &rt,

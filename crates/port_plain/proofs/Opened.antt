@@ -1,5 +1,5 @@
 -- A port as the tests open it.
-use Rattle.std.proofs.Common.{◌≡◌, Some, None, List, refl, ap, ◌∙◌, arith}
+use Rattle.std.proofs.Common.{◌≡◌, Some, None, List, [], refl, ap, ◌∙◌, arith}
 use Rattle.pic_machine.specs.declared.world.Start.{Start}
 use Rattle.pic_machine.specs.Happened.{Happened}
 use Rattle.pic_machine.specs.State.{world_at}

@@ -2,7 +2,7 @@
 //!
 //! `specs/` defines the meaning of scripts, over lists of what happened. First come tables, whose lines
 //! are the statements' own: `Context` (what statements read and write, and the numbers of declared
-//! computations), `Phases` (where a statement stands, from one of its calls to the next one), `Statements`
+//! things), `Phases` (where a statement stands, from one of its calls to the next one), `Statements`
 //! (how each begins: what it changes, or its call and what the reply makes of it, or its block) and
 //! `Tables` (at each phase the call that is asked for and where its reply leads, or how it goes on by
 //! itself; and what is done at the exit of a block). Then come rules that know no statement: `Segments`
@@ -19,8 +19,8 @@
 //! list. The walks of `proofs/Walks.antt` go through each line of the tables by given replies.
 //!
 //! Pollers use a body's calls: `change` for a statement that makes no entry and has no block, `stand` and
-//! the calls on frames for all others; with `Numbers` they find the computations that statements name, and
-//! with `block_at` the statements of a block. Where a step of theirs leads they prove by the lemmas of
+//! the calls on frames for all others; with `Numbers` they find the triggers and computations that statements
+//! name, and with `block_at` the statements of a block. Where a step of theirs leads they prove by the lemmas of
 //! `Framing` (one for each kind of row), and by `leads_segment` that the log follows its text there. Who
 //! begins a run uses `Body::new`, `Body::clock` and `start_of`. It stands on `pic_base`, `pic_machine`,
 //! `entry_log` and `script_tree`.
@@ -37,7 +37,7 @@ mod texts;
 mod under_way;
 
 pub use body::Body;
-pub use numbering::Numbers;
+pub use numbering::{Counted, Numbers};
 pub use standing::{Exit, Frame, Standing};
 pub use start::start_of;
 pub use texts::block_at;

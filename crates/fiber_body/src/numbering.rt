@@ -19,8 +19,7 @@ pub struct Numbers {
 }
 
 impl Model for Numbers {
-    ghost use Rattle.script_tree.specs.Names.{sort_number, sort_of};
-ghost use Rattle.fiber_body.specs.Context.{Numbering};
+    ghost use Rattle.fiber_body.specs.Context.{Numbering};
 
     ghost Value = { Numbering };
 
@@ -60,14 +59,14 @@ impl Numbers {
 
 /// A sort of things that are numbered by themselves.
 #[derive(Clone, Copy)]
-pub(crate) enum Counted {
+pub enum Counted {
     Triggers,
     Comps,
 }
 
 impl Counted {
     /// Whether a declaration of this kind is one of the sort.
-    fn counts(self, kind: Kind) -> bool
+    pub fn counts(self, kind: Kind) -> bool
         ensures { result ≡ (sort_number (sort_of kind) == sort_number (sort_counted self)) }
     {
         match self {
@@ -81,7 +80,11 @@ impl Counted {
         requires { number ≤ 1000 }
         ensures { result ≡ behind_decl (sort_counted self) number kind }
     {
-        if self.counts(kind) { number + 1 } else { number }
+        if self.counts(kind) {
+            number + 1
+        } else {
+            number
+        }
     }
 }
 

@@ -1,6 +1,6 @@
 -- The text of a view of a history is the history's report.
 use Rattle.std.proofs.Common.{◌≡◌, ℕ, zero, suc, ◌+◌, ◌<◌, Bool, Option, Some, None, List, [], ◌∷◌, ◌++◌, length, replicate, slice_get, get_or, refl, sym, ap, subst, ◌∙◌, arith}
-use Rattle.std.proofs.lemmas.List.{length-replicate}
+use Rattle.std.proofs.lemmas.List.{length-map, length-replicate}
 use Rattle.std.proofs.lemmas.Option.{slice_get-get_or, slice_get_within}
 use Rattle.entry_log.specs.Logged.{Recorded}
 use Rattle.pic_machine.specs.declared.entry.Entry.{Entry}
@@ -14,10 +14,13 @@ use Rattle.pic_machine.specs.History.{Origin, birth_in, world}
 use Rattle.pic_machine.specs.Log.{entries, log, visible}
 use Rattle.pic_machine.proofs.Completions.{StandsAt, comp_once, comp_told, completer_made}
 use Rattle.pic_machine.proofs.Comps.{comps_stay}
+use Rattle.script_tree.specs.declared.program.Decl.{Decl}
+use Rattle.script_tree.specs.declared.thing.Sort.TheVariants as sort
 use Rattle.script_tree.specs.Tree.{Tree}
+use Rattle.fiber_body.specs.Context.{count_of}
 use Rattle.pic_report.specs.declared.view.FiberView.{FiberView}
 use Rattle.pic_report.specs.declared.view.RunView.{RunView}
-use Rattle.pic_report.specs.Report.{comps_lines, comp_names, fiber_lines, fibers_lines, joined, name_of_birth, report, report_lines, run_line, suspended_count, text_names, trace_lines}
+use Rattle.pic_report.specs.Report.{comps_lines, comp_decls, comp_names, fiber_lines, fibers_lines, joined, name_of_birth, report, report_lines, text_names, trace_lines}
 use Rattle.pic_report.specs.View.{BeginsRunning, IsFiberView, IsTraceOf, IsViewOf, all_entries, states_of, told_lines, traced_lines, view_lines, view_text, viewed_lines, views_lines}
 use Rattle.pic_report.proofs.Told.{all_tell}
 
@@ -82,8 +85,15 @@ runs_at_first (suc n) (suc c) small = runs_at_first n c (omega (arith, small))
 -- ---- the whole
 
 module _ (script : Tree) (origin : Origin) (hs : List Happened) (traced with_log : Bool) (view : RunView) (comps : BeginsRunning script origin) (is : IsViewOf origin hs traced with_log view) where
+  -- as many names are told as computations are declared
+  named : count_of sort.Comp script.decls ≡ length (comp_names script)
+  named = sym (length-map (comp_decls script.decls) (λ (d : Decl). d.name))
+
+  comps_at_first : origin.world.comps ≡ replicate (length (comp_names script) + 1) (Running [])
+  comps_at_first = comps ∙ ap (λ (n : ℕ). replicate (n + 1) (Running [])) named
+
   count_now : length (world origin hs).comps ≡ length (comp_names script) + 1
-  count_now = comps_stay origin hs ∙ (ap (λ (states : List CompState). length states) comps ∙ length-replicate (length (comp_names script) + 1) (Running []))
+  count_now = comps_stay origin hs ∙ (ap (λ (states : List CompState). length states) comps_at_first ∙ length-replicate (length (comp_names script) + 1) (Running []))
 
   logs_are : (i : ℕ) (seen : FiberView) → slice_get view.fibers.items i ≡ Some seen → seen.entries.entries ≡ visible (log hs (1 + i))
   logs_are i seen there =
@@ -96,7 +106,7 @@ module _ (script : Tree) (origin : Origin) (hs : List Happened) (traced with_log
       let small : c < length (comp_names script) + 1 = omega (arith, count_now, slice_get_within (world origin hs).comps c state there) in
       let runs : StandsAt origin.world.comps c None = record {
         state = Running [];
-        there = subst (λ (states : List CompState). slice_get states c ≡ Some (Running [])) (sym comps) (runs_at_first (length (comp_names script) + 1) c small);
+        there = subst (λ (states : List CompState). slice_get states c ≡ Some (Running [])) (sym comps_at_first) (runs_at_first (length (comp_names script) + 1) c small);
         is = refl;
       } in
       let told = comp_told origin hs c is.legal runs in

@@ -1,6 +1,6 @@
 -- The text of a report.
 use Rattle.std.proofs.Common.{zero, suc}
-use Rattle.std.specs.Prelude.{ℕ, ◌+◌, Bool, true, false, Option, Some, None, List, [], ◌∷◌, ◌++◌, codes, decimal, slice_index_or, slice_get, map, filter}
+use Rattle.std.specs.Prelude.{ℕ, ◌+◌, ◌==◌, Bool, true, false, Option, Some, None, List, [], ◌∷◌, ◌++◌, codes, decimal, slice_index_or, slice_get, map, filter}
 use Rattle.std.specs.List.{count_by, flat_map}
 use Rattle.pic_base.specs.declared.outcome.Outcome.{Outcome}
 use Rattle.pic_base.specs.declared.outcome.Outcome.TheVariants.{Cancelled}
@@ -20,9 +20,9 @@ use Rattle.pic_machine.specs.Completing.{completion, outcome_of}
 use Rattle.pic_machine.specs.History.{Origin, birth_in, world}
 use Rattle.pic_machine.specs.Log.{entries, log, visible}
 use Rattle.script_tree.specs.declared.program.Decl.{Decl}
-use Rattle.script_tree.specs.declared.program.Kind.{Kind}
-use Rattle.script_tree.specs.declared.program.Kind.TheVariants.{Comp}
 use Rattle.script_tree.specs.declared.program.Text.{Text}
+use Rattle.script_tree.specs.declared.thing.Sort.TheVariants as sort
+use Rattle.script_tree.specs.Names.{sort_of, sort_number}
 use Rattle.script_tree.specs.Tree.{Tree}
 use Rattle.pic_report.specs.EntryText.{entry_text, text_name}
 
@@ -32,14 +32,13 @@ use Rattle.pic_report.specs.EntryText.{entry_text, text_name}
 abbrev pub text_names : Tree → List (List ℕ)
 text_names script = map (λ (t : Text). t.name) script.texts
 
--- whether the declaration makes a computation
-abbrev pub is_comp : Kind → Bool
-is_comp Comp = true
-is_comp _ = false
+-- the declarations that make a computation, in order; triggers that are declared have no lines
+abbrev pub comp_decls : List Decl → List Decl
+comp_decls decls = filter (λ (d : Decl). sort_number (sort_of d.kind) == sort_number sort.Comp) decls
 
 -- the names of the declared computations, in order
 abbrev pub comp_names : Tree → List (List ℕ)
-comp_names script = map (λ (d : Decl). d.name) (filter (λ (d : Decl). is_comp d.kind) script.decls)
+comp_names script = map (λ (d : Decl). d.name) (comp_decls script.decls)
 
 -- the name of the text that a fiber of this birth runs
 abbrev pub name_of_birth : List (List ℕ) → Option Birth → List ℕ

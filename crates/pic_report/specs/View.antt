@@ -15,7 +15,9 @@ use Rattle.pic_machine.specs.Completing.{completion, outcome_by}
 use Rattle.pic_machine.specs.Final.{IsFinal}
 use Rattle.pic_machine.specs.History.{IsLegal, Origin, birth_in, world}
 use Rattle.pic_machine.specs.Log.{entries, log, visible}
+use Rattle.script_tree.specs.declared.thing.Sort.TheVariants as sort
 use Rattle.script_tree.specs.Tree.{Tree}
+use Rattle.fiber_body.specs.Context.{count_of}
 use Rattle.fiber_body.specs.Fits.{Fits}
 use Rattle.fiber_body.specs.Shown.{Shown as Body, carry_of}
 use Rattle.pic_report.specs.declared.view.FiberView.{FiberView}
@@ -27,7 +29,7 @@ use Rattle.pic_report.specs.Report.{clock_line, comp_line, comp_names, fiber_lin
 
 -- the root and the declared computations stand at the origin, and all of them run with nothing attached
 abbrev pub BeginsRunning : Tree → Origin → Type 0
-BeginsRunning script origin = origin.world.comps ≡ replicate (length (comp_names script) + 1) (Running [])
+BeginsRunning script origin = origin.world.comps ≡ replicate (count_of sort.Comp script.decls + 1) (Running [])
 
 -- this is left of a machine whose bodies shared this, behind the history, at whose end nothing is left to
 -- do; at its origin main is the one fiber

@@ -3,17 +3,18 @@ ghost use Rattle.std.specs.Prelude.{◌≡◌, ◌+◌, IfOk, length};
 ghost use Rattle.pic_machine.specs.Completing.{outcome_by};
 ghost use Rattle.pic_report.specs.Names.{read_names};
 ghost use Rattle.pic_report.specs.Output.{Puts};
-ghost use Rattle.pic_report.specs.Report.{comp_line, comp_name, comp_names, is_comp, joined};
+ghost use Rattle.pic_report.specs.Report.{comp_line, comp_name, comp_names, joined};
 ghost use Rattle.pic_report.specs.View.{all_entries, told_lines};
 
 use crate::completions::completions_of;
 use crate::output::put_line;
 use crate::refusal::ReportRefusal;
 use crate::view::RunView;
+use fiber_body::Counted;
 use pic_base::Memory;
 use pic_io::Sink;
 use pic_machine::Completion;
-use script_tree::{Kind, Program};
+use script_tree::Program;
 use std::alloc::Global;
 
 /// Writes a line for the root and each declared computation, in order.
@@ -42,18 +43,11 @@ fn comp_names(alloc: Global, program: &Program) -> Result<Vec<&str>, Memory>
 {
     let mut names = Vec::new(alloc);
     for decl in &program.decls {
-        if is_comp(decl.kind) {
+        if Counted::Comps.counts(decl.kind) {
             names.push(decl.name.as_str())?;
         }
     }
     Ok(names)
-}
-
-/// Whether the declaration makes a computation.
-fn is_comp(kind: Kind) -> bool
-    ensures { result ≡ is_comp kind }
-{
-    matches!(kind, Kind::Comp)
 }
 
 /// Writes the line of a computation that was completed so, or not at all.

@@ -12,8 +12,8 @@ use std::test::Fail;
 
 mod triggers;
 
-/// A script with a computation and two texts.
-const SCRIPT: &[u8] = b"picos 1\ncomp a\nfiber f\nend\nmain\nend\n";
+/// A script with a trigger, of which no report has a line, a computation and two texts.
+const SCRIPT: &[u8] = b"picos 1\ntrigger t\ncomp a\nfiber f\nend\nmain\nend\n";
 
 fn note(log: &mut FiberLog, call: Call, reply: Reply) -> Result<(), Memory> {
     log.reserve()?;

@@ -1,7 +1,6 @@
 //! What is told of a run that is over.
-ghost use Rattle.std.specs.Prelude.{◌≡◌, IfOk, IsTrue};
+ghost use Rattle.std.specs.Prelude.{◌≡◌, IfOk};
 ghost use Rattle.std.specs.Arc.{arc_value};
-ghost use Rattle.fiber_poll.specs.Built.{is_built};
 ghost use Rattle.pic_run.specs.Over.{IsOver, IsReportOf};
 ghost use Rattle.pic_run.specs.Status.{main_status, status_of};
 
@@ -32,8 +31,7 @@ pub(crate) fn report_of(
     trace: bool,
     log: bool,
 ) -> Result<Report, Memory>
-    requires built { IsTrue (is_built (arc_value program)) }
-    requires over { IsOver (arc_value program) port }
+    requires { IsOver (arc_value program) port }
     ensures { IfOk result (IsReportOf (arc_value program) port.front trace log) }
 {
     let Ok((closed, history)) = port.close_with_history() else {

@@ -10,6 +10,7 @@ use std::test::Fail;
 mod faults;
 mod flags;
 mod reports;
+mod triggers;
 mod turns;
 mod words;
 

@@ -9,3 +9,5 @@ pub mod Forking
 pub mod Unloading
 pub mod Alone
 pub mod Handing
+pub mod Callable
+pub mod Opened

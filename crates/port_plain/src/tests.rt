@@ -1,6 +1,9 @@
 //! Runs on the port, with a body that is its entries alone.
+use entry_log::EntryLog;
 use pic_base::{FiberNo, Memory, Outcome};
 use pic_machine::{Birth, Call, Carried, Entry, Port, Reply};
+use std::alloc::Global;
+use std::process::Abort;
 use std::test::Fail;
 
 mod bare;
@@ -8,7 +11,8 @@ mod home;
 mod out;
 mod waiting;
 
-use home::In;
+use home::{In, main_out};
+use out::Out;
 
 fn entry(fiber: FiberNo, call: Call, reply: Reply) -> Entry {
     Entry { fiber, call, reply }
@@ -43,10 +47,13 @@ fn a_body_goes_out_and_comes_back(rt: HostRuntime) -> Result<(), Fail> {
 
 #[test]
 fn a_child_is_made(rt: HostRuntime) -> Result<(), Fail> {
-    let Ok(main) = In::open(rt.alloc())?.claim(1)? else {
-        return Err(Memory.into());
-    };
-    let (main, number) = main.fork(rt.alloc())?;
+    let mut main = main_out(rt.alloc())?;
+    make_child(&rt, rt.alloc(), &mut main)
+}
+
+/// Main makes fiber 2.
+fn make_child(rt: &impl Abort, alloc: Global, main: &mut Out) -> Result<(), Fail> {
+    let number = main.fork(alloc)?;
     assert_eq!(rt; number, 2);
     let fork = Call::Fork { text: 5, value: 7 };
     assert_eq!(rt;
@@ -67,10 +74,8 @@ fn a_child_is_made(rt: HostRuntime) -> Result<(), Fail> {
 
 #[test]
 fn main_and_its_child_end(rt: HostRuntime) -> Result<(), Fail> {
-    let Ok(main) = In::open(rt.alloc())?.claim(1)? else {
-        return Err(Memory.into());
-    };
-    let (main, _) = main.fork(rt.alloc())?;
+    let mut main = main_out(rt.alloc())?;
+    let _ = main.fork(rt.alloc())?;
     let home = main.end(Outcome::Returned(7))?;
     let (home, over) = home.is_over()?;
     assert!(rt; !over);
@@ -84,6 +89,11 @@ fn main_and_its_child_end(rt: HostRuntime) -> Result<(), Fail> {
         return Err(Memory.into());
     };
     assert_eq!(rt; closed.bodies.len(), 2);
+    holds_all(&rt, &history)
+}
+
+/// What main and its child did, in order.
+fn holds_all(rt: &impl Abort, history: &EntryLog) -> Result<(), Fail> {
     let ended = Call::End(Outcome::Returned(7));
     let expected = [
         entry(1, Call::Turn, Reply::Plain),

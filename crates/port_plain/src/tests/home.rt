@@ -48,6 +48,14 @@ fn start() -> Start
     }
 }
 
+/// Main's body, out of a new port.
+pub(super) fn main_out(alloc: Global) -> Result<Out, Memory> {
+    match In::open(alloc)?.claim(1)? {
+        Ok(main) => Ok(main),
+        Err(_) => Err(Memory),
+    }
+}
+
 impl In {
     pub(super) fn open(alloc: Global) -> Result<In, Memory> {
         let main = Bare::new(alloc, 3, 0);

@@ -1,5 +1,5 @@
 //! A body that is out of its port.
-ghost use Rattle.std.specs.Prelude.{◌≡◌, ◌<◌, [], IfOk};
+ghost use Rattle.std.specs.Prelude.{◌≡◌, ◌<◌, [], OnOk};
 ghost use Rattle.port_plain.specs.Shown.{sight_of};
 ghost use Rattle.port_plain.specs.Handed.{IsOut};
 
@@ -40,116 +40,114 @@ pub(super) enum Parked {
     Taken(Out),
 }
 
-impl Out {
-    /// The port and the body, which owes nothing and has room for an entry.
-    fn free(self) -> Result<(PlainPort<Bare>, Bare), Memory>
-        ensures out { IfOk result (λ parts.
-            IsOut (sight_of ⟦<Bare as Carried>⟧.seen parts.0) (⟦<Bare as Carried>⟧.seen parts.1)) }
-        ensures owes { IfOk result (λ parts. (⟦<Bare as Carried>⟧.seen parts.1).owes ≡ []) }
-        ensures room { IfOk result (λ parts. 0 < (⟦<Bare as Carried>⟧.seen parts.1).room) }
-    {
-        let Out { mut port, mut body } = self;
-        if port.walk_next(&mut body).is_some() {
-            return Err(Memory);
-        }
-        body.reserve()?;
-        Ok((port, body))
-    }
+/// Makes room for an entry in a body that is out and whose fiber owes nothing.
+fn make_ready(port: &mut PlainPort<Bare>, body: &mut Bare) -> Result<(), Memory>
+    requires { IsOut (sight_of ⟦<Bare as Carried>⟧.seen port.old) (⟦<Bare as Carried>⟧.seen body.old) }
+    ensures out { IsOut (sight_of ⟦<Bare as Carried>⟧.seen port.new) (⟦<Bare as Carried>⟧.seen body.new) }
+    ensures owes { OnOk result ((⟦<Bare as Carried>⟧.seen body.new).owes ≡ []) }
+    ensures room { OnOk result (0 < (⟦<Bare as Carried>⟧.seen body.new).room) }
+{
+    let None = port.walk_next(body) else {
+        return Err(Memory);
+    };
+    body.reserve()
+}
 
+impl Out {
     /// Makes a trigger, where there may be one more.
-    pub(super) fn new_trigger(self) -> Result<(Out, Option<TriggerNo>), Memory> {
-        let (mut port, mut body) = self.free()?;
-        match port.new_trigger(&mut body) {
-            Ok(trigger) => Ok((Out { port, body }, Some(trigger))),
-            Err(PortFault::Full) => Ok((Out { port, body }, None)),
+    pub(super) fn new_trigger(&mut self) -> Result<Option<TriggerNo>, Memory> {
+        make_ready(&mut self.port, &mut self.body)?;
+        match self.port.new_trigger(&mut self.body) {
+            Ok(trigger) => Ok(Some(trigger)),
+            Err(PortFault::Full) => Ok(None),
             Err(_) => Err(Memory),
         }
     }
 
     /// Makes a place, where there may be one more.
-    pub(super) fn new_place(self) -> Result<(Out, Option<u32>), Memory> {
-        let (mut port, mut body) = self.free()?;
-        match port.new_place(&mut body) {
-            Ok(place) => Ok((Out { port, body }, Some(place))),
-            Err(PortFault::Full) => Ok((Out { port, body }, None)),
+    pub(super) fn new_place(&mut self) -> Result<Option<u32>, Memory> {
+        make_ready(&mut self.port, &mut self.body)?;
+        match self.port.new_place(&mut self.body) {
+            Ok(place) => Ok(Some(place)),
+            Err(PortFault::Full) => Ok(None),
             Err(_) => Err(Memory),
         }
     }
 
     /// Looks at a trigger.
-    pub(super) fn look(self, trigger: TriggerNo) -> Result<(Out, TrigState), Memory>
+    pub(super) fn look(&mut self, trigger: TriggerNo) -> Result<TrigState, Memory>
         requires { trigger < 2 }
     {
-        let (mut port, mut body) = self.free()?;
-        match port.look(&mut body, trigger) {
-            Ok(state) => Ok((Out { port, body }, state)),
+        make_ready(&mut self.port, &mut self.body)?;
+        match self.port.look(&mut self.body, trigger) {
+            Ok(state) => Ok(state),
             Err(_) => Err(Memory),
         }
     }
 
     /// Signals a trigger, for whose signal nobody asked.
-    pub(super) fn signal(self, trigger: TriggerNo) -> Result<(Out, SignalReply), Memory>
+    pub(super) fn signal(&mut self, trigger: TriggerNo) -> Result<SignalReply, Memory>
         requires { trigger < 2 }
     {
-        let (mut port, mut body) = self.free()?;
-        match port.signal(&mut body, trigger) {
-            Ok(how) => Ok((Out { port, body }, how)),
+        make_ready(&mut self.port, &mut self.body)?;
+        match self.port.signal(&mut self.body, trigger) {
+            Ok(how) => Ok(how),
             Err(_) => Err(Memory),
         }
     }
 
     /// Attaches a trigger to the root, at a place of its own.
-    pub(super) fn attach(self, trigger: TriggerNo) -> Result<(Out, AttachReply), Memory>
+    pub(super) fn attach(&mut self, trigger: TriggerNo) -> Result<AttachReply, Memory>
         requires { trigger < 2 }
     {
-        let (mut port, mut body) = self.free()?;
-        let Ok(place) = port.new_place(&mut body) else {
+        make_ready(&mut self.port, &mut self.body)?;
+        let Ok(place) = self.port.new_place(&mut self.body) else {
             return Err(Memory);
         };
-        body.reserve()?;
-        match port.attach(&mut body, place, 0, trigger) {
-            Ok(how) => Ok((Out { port, body }, how)),
+        self.body.reserve()?;
+        match self.port.attach(&mut self.body, place, 0, trigger) {
+            Ok(how) => Ok(how),
             Err(_) => Err(Memory),
         }
     }
 
     /// Completes the root.
-    pub(super) fn complete(self, outcome: Outcome) -> Result<(Out, CompleteReply), Memory> {
-        let (mut port, mut body) = self.free()?;
-        match port.complete(&mut body, 0, outcome) {
-            Ok(how) => Ok((Out { port, body }, how)),
+    pub(super) fn complete(&mut self, outcome: Outcome) -> Result<CompleteReply, Memory> {
+        make_ready(&mut self.port, &mut self.body)?;
+        match self.port.complete(&mut self.body, 0, outcome) {
+            Ok(how) => Ok(how),
             Err(_) => Err(Memory),
         }
     }
 
     /// What the fiber owes first.
-    pub(super) fn first(self) -> (Out, Option<Duty>) {
-        let Out { mut port, mut body } = self;
-        let first = port.walk_next(&mut body);
-        (Out { port, body }, first)
+    pub(super) fn first(&mut self) -> Option<Duty> {
+        self.port.walk_next(&mut self.body)
     }
 
     /// Signals a trigger, whose signal is what the fiber owes first.
-    pub(super) fn pay(self, trigger: TriggerNo) -> Result<(Out, SignalReply), Memory>
+    pub(super) fn pay(&mut self, trigger: TriggerNo) -> Result<SignalReply, Memory>
         requires { trigger < 2 }
     {
-        let Out { mut port, mut body } = self;
-        if port.walk_next(&mut body) != Some(Duty::Signal(trigger)) {
+        let Some(Duty::Signal(first)) = self.port.walk_next(&mut self.body) else {
+            return Err(Memory);
+        };
+        if first != trigger {
             return Err(Memory);
         }
-        body.reserve()?;
-        match port.signal(&mut body, trigger) {
-            Ok(how) => Ok((Out { port, body }, how)),
+        self.body.reserve()?;
+        match self.port.signal(&mut self.body, trigger) {
+            Ok(how) => Ok(how),
             Err(_) => Err(Memory),
         }
     }
 
     /// Makes a fiber.
-    pub(super) fn fork(self, alloc: Global) -> Result<(Out, FiberNo), Memory> {
-        let (mut port, mut body) = self.free()?;
+    pub(super) fn fork(&mut self, alloc: Global) -> Result<FiberNo, Memory> {
+        make_ready(&mut self.port, &mut self.body)?;
         let child = Bare::new(alloc, 5, 7);
-        match port.fork(&mut body, 5, 7, child) {
-            Ok(number) => Ok((Out { port, body }, number)),
+        match self.port.fork(&mut self.body, 5, 7, child) {
+            Ok(number) => Ok(number),
             Err(_) => Err(Memory),
         }
     }
@@ -158,7 +156,8 @@ impl Out {
     pub(super) fn park(self, trigger: TriggerNo) -> Result<Parked, Memory>
         requires { trigger < 2 }
     {
-        let (mut port, body) = self.free()?;
+        let Out { mut port, mut body } = self;
+        make_ready(&mut port, &mut body)?;
         match port.park(trigger, body) {
             Ok(()) => Ok(Parked::Asleep(In { port })),
             Err((body, ParkRefusal::Signalled)) => Ok(Parked::Signalled(Out { port, body })),
@@ -178,7 +177,8 @@ impl Out {
 
     /// Ends the fiber.
     pub(super) fn end(self, outcome: Outcome) -> Result<In, Memory> {
-        let (mut port, body) = self.free()?;
+        let Out { mut port, mut body } = self;
+        make_ready(&mut port, &mut body)?;
         match port.end(body, outcome) {
             Ok(()) => Ok(In { port }),
             Err(_) => Err(Memory),

@@ -1,31 +1,28 @@
 //! Triggers, places and attachments, and fibers that wait.
 use super::entry;
-use super::home::In;
+use super::home::{In, main_out};
 use super::out::{Out, Parked};
 use pic_base::{Action, Duty, Memory, Outcome};
 use pic_machine::{AttachReply, Call, CompleteReply, Reply, SignalReply, TrigState};
-use std::alloc::Global;
+use std::process::Abort;
 use std::test::Fail;
-
-/// Main's body, out of a new port.
-fn main_out(alloc: Global) -> Result<Out, Memory> {
-    match In::open(alloc)?.claim(1)? {
-        Ok(main) => Ok(main),
-        Err(_) => Err(Memory),
-    }
-}
 
 #[test]
 fn triggers_are_made_up_to_the_limit(rt: HostRuntime) -> Result<(), Fail> {
-    let main = main_out(rt.alloc())?;
-    let (main, trigger) = main.new_trigger()?;
+    let mut main = main_out(rt.alloc())?;
+    make_triggers(&rt, &mut main)
+}
+
+/// Triggers 0 and 1 stand, and there may be one more.
+fn make_triggers(rt: &impl Abort, main: &mut Out) -> Result<(), Fail> {
+    let trigger = main.new_trigger()?;
     assert_eq!(rt; trigger, Some(2));
     assert_eq!(rt;
         main.port.history().last(),
         Some(entry(1, Call::NewTrigger, Reply::Made(2)))
     );
     assert_eq!(rt; main.body.noted().last(), None);
-    let (main, trigger) = main.new_trigger()?;
+    let trigger = main.new_trigger()?;
     assert_eq!(rt; trigger, None);
     let full = Some(entry(1, Call::NewTrigger, Reply::Full));
     assert_eq!(rt; main.port.history().last(), full);
@@ -35,18 +32,23 @@ fn triggers_are_made_up_to_the_limit(rt: HostRuntime) -> Result<(), Fail> {
 
 #[test]
 fn places_are_made_up_to_the_limit(rt: HostRuntime) -> Result<(), Fail> {
-    let main = main_out(rt.alloc())?;
-    let (main, first) = main.new_place()?;
+    let mut main = main_out(rt.alloc())?;
+    make_places(&rt, &mut main)
+}
+
+/// There may be three places.
+fn make_places(rt: &impl Abort, main: &mut Out) -> Result<(), Fail> {
+    let first = main.new_place()?;
     assert_eq!(rt; first, Some(0));
-    let (main, second) = main.new_place()?;
+    let second = main.new_place()?;
     assert_eq!(rt; second, Some(1));
-    let (main, third) = main.new_place()?;
+    let third = main.new_place()?;
     assert_eq!(rt; third, Some(2));
     assert_eq!(rt;
         main.port.history().last(),
         Some(entry(1, Call::NewPlace, Reply::Made(2)))
     );
-    let (main, fourth) = main.new_place()?;
+    let fourth = main.new_place()?;
     assert_eq!(rt; fourth, None);
     let full = Some(entry(1, Call::NewPlace, Reply::Full));
     assert_eq!(rt; main.port.history().last(), full);
@@ -57,7 +59,8 @@ fn places_are_made_up_to_the_limit(rt: HostRuntime) -> Result<(), Fail> {
 
 #[test]
 fn a_suspended_fiber_goes_on_once_its_trigger_is_signalled(rt: HostRuntime) -> Result<(), Fail> {
-    let (main, _) = main_out(rt.alloc())?.fork(rt.alloc())?;
+    let mut main = main_out(rt.alloc())?;
+    let _ = main.fork(rt.alloc())?;
     let Parked::Asleep(home) = main.park(0)? else {
         return Err(Memory.into());
     };
@@ -67,21 +70,8 @@ fn a_suspended_fiber_goes_on_once_its_trigger_is_signalled(rt: HostRuntime) -> R
     let Ok(child) = home.claim(2)? else {
         return Err(Memory.into());
     };
-    let resume = Action::Resume(1);
-    let (child, state) = child.look(0)?;
-    assert_eq!(rt; state, TrigState::Awaiting(resume));
-    let Parked::Taken(child) = child.park(0)? else {
-        return Err(Memory.into());
-    };
-    let (child, how) = child.signal(0)?;
-    assert_eq!(rt; how, SignalReply::Acted(resume));
-    let (child, how) = child.signal(0)?;
-    assert_eq!(rt; how, SignalReply::Already);
-    let (child, how) = child.signal(1)?;
-    assert_eq!(rt; how, SignalReply::Plain);
-    let (child, state) = child.look(0)?;
-    assert_eq!(rt; state, TrigState::Signalled);
-    let Ok(main) = child.lay()?.claim(1)? else {
+    let home = resume_main(&rt, child)?;
+    let Ok(main) = home.claim(1)? else {
         return Err(Memory.into());
     };
     let Parked::Signalled(main) = main.park(0)? else {
@@ -91,32 +81,70 @@ fn a_suspended_fiber_goes_on_once_its_trigger_is_signalled(rt: HostRuntime) -> R
     Ok(())
 }
 
+/// The child finds that main waits for trigger 0, and signals that trigger.
+fn resume_main(rt: &impl Abort, child: Out) -> Result<In, Fail> {
+    let mut child = child;
+    let state = child.look(0)?;
+    assert_eq!(rt; state, TrigState::Awaiting(Action::Resume(1)));
+    let Parked::Taken(mut child) = child.park(0)? else {
+        return Err(Memory.into());
+    };
+    signal_all(rt, &mut child)?;
+    Ok(child.lay()?)
+}
+
+/// Main waits for trigger 0, and nobody for trigger 1.
+fn signal_all(rt: &impl Abort, child: &mut Out) -> Result<(), Fail> {
+    let how = child.signal(0)?;
+    assert_eq!(rt; how, SignalReply::Acted(Action::Resume(1)));
+    let how = child.signal(0)?;
+    assert_eq!(rt; how, SignalReply::Already);
+    let how = child.signal(1)?;
+    assert_eq!(rt; how, SignalReply::Plain);
+    let state = child.look(0)?;
+    assert_eq!(rt; state, TrigState::Signalled);
+    Ok(())
+}
+
 #[test]
 fn a_completion_owes_a_signal_to_all_that_is_attached(rt: HostRuntime) -> Result<(), Fail> {
-    let main = main_out(rt.alloc())?;
-    let (main, state) = main.look(0)?;
+    let mut main = main_out(rt.alloc())?;
+    complete_root(&rt, &mut main)?;
+    pay_signals(&rt, &mut main)?;
+    complete_late(&rt, &mut main)
+}
+
+/// Both triggers are attached to the root.
+fn complete_root(rt: &impl Abort, main: &mut Out) -> Result<(), Fail> {
+    let state = main.look(0)?;
     assert_eq!(rt; state, TrigState::Initial);
-    let (main, how) = main.attach(0)?;
+    let how = main.attach(0)?;
     assert_eq!(rt; how, AttachReply::Attached);
-    let (main, how) = main.attach(1)?;
+    let how = main.attach(1)?;
     assert_eq!(rt; how, AttachReply::Attached);
-    let (main, how) = main.complete(Outcome::Returned(9))?;
+    let how = main.complete(Outcome::Returned(9))?;
     assert_eq!(rt; how, CompleteReply::Won);
-    let (main, first) = main.first();
-    assert_eq!(rt; first, Some(Duty::Signal(1)));
-    let (main, how) = main.pay(1)?;
+    Ok(())
+}
+
+/// The one that was attached last is owed first.
+fn pay_signals(rt: &impl Abort, main: &mut Out) -> Result<(), Fail> {
+    assert_eq!(rt; main.first(), Some(Duty::Signal(1)));
+    let how = main.pay(1)?;
     assert_eq!(rt; how, SignalReply::Plain);
-    let (main, first) = main.first();
-    assert_eq!(rt; first, Some(Duty::Signal(0)));
-    let (main, how) = main.pay(0)?;
+    assert_eq!(rt; main.first(), Some(Duty::Signal(0)));
+    let how = main.pay(0)?;
     assert_eq!(rt; how, SignalReply::Plain);
-    let (main, first) = main.first();
-    assert_eq!(rt; first, None);
-    let (main, how) = main.complete(Outcome::Cancelled(3))?;
+    assert_eq!(rt; main.first(), None);
+    Ok(())
+}
+
+/// The root's outcome stands.
+fn complete_late(rt: &impl Abort, main: &mut Out) -> Result<(), Fail> {
+    let how = main.complete(Outcome::Cancelled(3))?;
     assert_eq!(rt; how, CompleteReply::Lost(Outcome::Returned(9)));
-    let (main, how) = main.attach(0)?;
+    let how = main.attach(0)?;
     assert_eq!(rt; how, AttachReply::Completed(Outcome::Returned(9)));
-    let (_, first) = main.first();
-    assert_eq!(rt; first, None);
+    assert_eq!(rt; main.first(), None);
     Ok(())
 }

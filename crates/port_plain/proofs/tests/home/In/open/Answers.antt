@@ -10,12 +10,12 @@ open-requires-clause-start c = rw c.start.ensures (record { root = omega arith; 
 
 pub open-requires-clause-main : goal.open-requires-clause-main
 open-requires-clause-main c = record {
-      unnumbered = c.new-main.ensures.number;
-      text = rw (c.start.ensures, c.new-main.ensures.birth) refl;
-      current = rw (c.start.ensures, c.new-main.ensures.birth) (omega arith);
-      owes = c.new-main.ensures.owes;
-      fitting = c.new-main.ensures.noted;
-    }
+  unnumbered = c.new-main.ensures.number;
+  text = rw (c.start.ensures, c.new-main.ensures.birth) refl;
+  current = rw (c.start.ensures, c.new-main.ensures.birth) (omega arith);
+  owes = c.new-main.ensures.owes;
+  fitting = c.new-main.ensures.noted;
+}
 
 pub open-requires-clause-clock : goal.open-requires-clause-clock
 open-requires-clause-clock c = numbered_clock _ _ c.new-clock.result c.number.new.self c.number.ensures.seen c.new-clock.ensures.owes (ap (λ (a : Carry _). a.noted) c.number.ensures.seen ∙ c.new-clock.ensures.noted)

@@ -147,7 +147,7 @@ module _ {port : Sight (Option Tree)} {a : Shown} (up : IsUp port a) where
   hs = log port.front f
 
   -- what the port asks for, where the body stands where the entry leads
-  abbrev TakesBack : Shown → Call → Reply → Type 0
+  abbrev pub TakesBack : Shown → Call → Reply → Type 0
   TakesBack d call re = FitsWith carry_of IsSameRest Fits d (log port.front (fiber_of (carry_of d))) (event (fiber_of (carry_of d)) call re)
 
   pub taken_back : (there : Standing) (n : ℕ) (call : Call) (re : Reply) → is_hidden call re ≡ false → LeadsTo (stood a there n) f (own hs ++ event f call re ∷ [])

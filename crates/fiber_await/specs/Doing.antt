@@ -1,11 +1,11 @@
 -- What a fiber that owes nothing did between two points of its turn.
-use Rattle.std.specs.Prelude.{◌≡◌, ◌≢◌, List, []}
+use Rattle.std.specs.Prelude.{◌≡◌, ◌≢◌, ℕ, Option, List, []}
 use Rattle.std.specs.List.{AllByRecursion}
 use Rattle.pic_machine.specs.Happened.{Happened}
 use Rattle.pic_machine.specs.Order.{GoesOn, readied}
 use Rattle.pic_machine.specs.Routine.{Goes, Routine}
 use Rattle.pic_machine.specs.Sight.{Carry, Sight, Holds, fiber_of}
-use Rattle.pic_machine.specs.Turning.{Grew}
+use Rattle.pic_machine.specs.Turning.{Grew, Went}
 
 -- the body is out, it isn't the clock's, and its fiber owes nothing
 pub record IsFree {S : Type 0} (port : Sight S) (body : Carry S) : Type 0 where
@@ -28,3 +28,11 @@ pub record Ran {S Phase : Type 0} (r : Routine Phase) (old new : Sight S) (befor
   pub es : List Happened
   pub did : Did old new before now es
   pub goes : Goes r (fiber_of before) p es q
+
+-- the same by one whose calls may make fibers ready, of which the ready line is told
+pub record RanTelling {S Phase : Type 0} (r : Routine Phase) (old new : Sight S) (before now : Carry S) (line later : Option (List ℕ)) (p q : Phase) : Type 0 where
+  pub went : Went old new before now line later
+  pub goes : Goes r (fiber_of before) p went.going q
+  pub free : IsFree new now
+  pub birth : now.birth ≡ before.birth
+  pub share : now.share ≡ before.share

@@ -1,6 +1,6 @@
 //! One call of a port each, with room made in the body for its entry.
-ghost use Rattle.std.specs.Prelude.{◌≡◌, ◌∷◌, ℕ, [], IfErr, IfOk, OnOk};
-ghost use Rattle.pic_machine.specs.History.{MayMake, NumbersFit, event};
+ghost use Rattle.std.specs.Prelude.{◌≡◌, ◌≤◌, ◌∷◌, ℕ, [], IfErr, IfOk, OnOk};
+ghost use Rattle.pic_machine.specs.History.{MayMake, NumbersFit, event, world};
 ghost use Rattle.pic_machine.specs.Lending.{Answered, Calm, Refuses};
 ghost use Rattle.pic_machine.specs.Sight.{Holds, fiber_of};
 ghost use Rattle.fiber_await.specs.Doing.{Did, IsFree};
@@ -36,6 +36,7 @@ pub fn new_place<P: Port>(port: &mut P, body: &mut P::Body) -> Result<PlaceNo, P
         (event (fiber_of (P.Body.seen body.old)) Call.NewPlace (Reply.Made place) ∷ [])) }
     ensures free { IfOk result (λ place. (comp trigger : ℕ) → NumbersFit (P.sight port.new).origin (P.sight port.new).front
         (fiber_of (P.Body.seen body.old)) (Call.Attach place comp trigger)) }
+    ensures fresh { IfOk result (λ place. (world (P.sight port.old).origin (P.sight port.old).front).places ≤ place) }
     ensures calm { OnOk result (Calm (P.sight port.old) (P.sight port.new)) }
     ensures refused { IfErr result (λ fault. RefusedMaking fault (P.sight port.old) (P.sight port.new)
         (P.Body.seen body.old) (P.Body.seen body.new) Call.NewPlace) }

@@ -22,13 +22,15 @@
 
 mod ahead;
 mod calls;
+mod following;
 mod owed;
 mod ready;
 mod stage;
 mod suspending;
 
-pub use ahead::Ahead;
+pub use ahead::{Ahead, CompAhead};
 pub use calls::{attach, look, new_place};
+pub use following::{armed, await_comp};
 pub use owed::discharge;
 pub use pic_machine::{Parts, Standing};
 pub use ready::make_ready;

@@ -58,7 +58,7 @@ fn fulfil<P: Port, R: ReadyLine>(
 }
 
 /// Adds the fiber that a signal made ready to the line, if it made one.
-fn tell<R: ReadyLine>(line: &mut R, how: SignalReply)
+pub(crate) fn tell<R: ReadyLine>(line: &mut R, how: SignalReply)
     ensures { Adds (R.told line.old) (R.told line.new) (resumed_by how) }
 {
     if let SignalReply::Acted(Action::Resume(fiber)) = how {

@@ -3,7 +3,7 @@ ghost use Rattle.std.specs.Prelude.{◌≡◌, ◌<◌, ◌⊎◌, IfErr, OnOk};
 ghost use Rattle.pic_machine.specs.Lending.{Calm};
 ghost use Rattle.pic_machine.specs.Waits.{making, making_at};
 ghost use Rattle.fiber_await.specs.Doing.{IsFree, Ran};
-ghost use Rattle.fiber_await.specs.Phases.{HasTrigger};
+ghost use Rattle.fiber_await.specs.Phases.{HasTrigger, MakesOwn};
 ghost use Rattle.fiber_await.specs.Refusing.{GaveUp};
 
 use crate::calls::{new_place, new_trigger};
@@ -27,6 +27,8 @@ pub fn make_ready<P: Port>(
         (making_at parts.old.at parts.old) (making_at parts.new.at parts.new) }
     ensures ready { OnOk result (parts.new.at ≡ 2) }
     ensures trigger { HasTrigger parts.new }
+    ensures own { MakesOwn (P.sight port.old) (P.sight port.new) (P.Body.seen body.old) (P.Body.seen body.new) parts.old parts.new }
+    ensures at { parts.new.at < 4 }
     ensures second { parts.new.second ≡ parts.old.second }
     ensures calm { OnOk result (Calm (P.sight port.old) (P.sight port.new)) }
     ensures gave_up { IfErr result (λ fault. GaveUp fault parts.new.at (P.sight port.old) (P.sight port.new)) }
@@ -51,6 +53,8 @@ fn make_trigger<P: Port>(
         (making_at parts.old.at parts.old) (making_at parts.new.at parts.new) }
     ensures made { OnOk result ((parts.new.at ≡ 1) ⊎ (parts.new.at ≡ 2)) }
     ensures trigger { HasTrigger parts.new }
+    ensures own { MakesOwn (P.sight port.old) (P.sight port.new) (P.Body.seen body.old) (P.Body.seen body.new) parts.old parts.new }
+    ensures at { parts.new.at < 4 }
     ensures second { parts.new.second ≡ parts.old.second }
     ensures calm { OnOk result (Calm (P.sight port.old) (P.sight port.new)) }
     ensures gave_up { IfErr result (λ fault. GaveUp fault parts.new.at (P.sight port.old) (P.sight port.new)) }
@@ -94,6 +98,8 @@ fn make_place<P: Port>(
         (making_at parts.old.at parts.old) (making_at parts.new.at parts.new) }
     ensures ready { OnOk result (parts.new.at ≡ 2) }
     ensures trigger { HasTrigger parts.new }
+    ensures own { MakesOwn (P.sight port.old) (P.sight port.new) (P.Body.seen body.old) (P.Body.seen body.new) parts.old parts.new }
+    ensures at { parts.new.at < 4 }
     ensures second { parts.new.second ≡ parts.old.second }
     ensures calm { OnOk result (Calm (P.sight port.old) (P.sight port.new)) }
     ensures gave_up { IfErr result (λ fault. GaveUp fault parts.new.at (P.sight port.old) (P.sight port.new)) }

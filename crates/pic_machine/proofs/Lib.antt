@@ -35,3 +35,4 @@ pub mod Keeping
 pub mod Asleep
 pub mod Dues
 pub mod Lawfully
+pub mod Embedded

@@ -94,6 +94,14 @@ made_place origin hs f p legal made =
     ap (λ (zs : List Happened). (world origin zs).places) made.is ∙ ap (λ (w : State). w.places) (world_from-append origin.world made.front (event f NewPlace (Made p) ∷ made.back)) in
     omega (arith, next.behind, there, places_from (after (world origin made.front) f NewPlace) made.back)
 
+-- a place that is made later has another number than any that stands
+pub later_place : (origin : Origin) (hs more whole : List Happened) (f p : ℕ) → IsLegal origin whole → whole ≡ hs ++ (more ++ event f NewPlace (Made p) ∷ []) → (world origin hs).places ≤ p
+later_place origin hs more whole f p legal is =
+    let before : List Happened = hs ++ more in
+    let next = next_place origin before f p (legal.each before [] (event f NewPlace (Made p)) (is ∙ sym (append_assoc hs more (event f NewPlace (Made p) ∷ [])))) in
+    let there : (world origin before).places ≡ (world_from (world origin hs) more).places = ap (λ (w : State). w.places) (world_from-append origin.world hs more) in
+    omega (arith, next.number, there, places_from (world origin hs) more)
+
 -- ---- triggers
 
 pub triggers_from : (w : State) (hs : List Happened) → length w.triggers ≤ length (world_from w hs).triggers

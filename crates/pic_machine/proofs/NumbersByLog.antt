@@ -1,6 +1,7 @@
 -- Which numbers a fiber may use is told by its own log: nobody else takes a place that it made.
 use Rattle.std.proofs.Common.{◌≡◌, ℕ, inl, inr, not, Bool, true, false, List, [], ◌∷◌, ◌++◌, filter, refl, sym, ap, subst, ◌∙◌, append_assoc}
 use Rattle.std.specs.List.{AllByRecursion}
+use Rattle.std.proofs.lemmas.List.Elements.{filter-append}
 use Rattle.pic_machine.specs.declared.entry.Call.{Call}
 use Rattle.pic_machine.specs.declared.entry.Call.TheVariants.{NewTrigger, NewPlace, Arm, Attach}
 use Rattle.pic_machine.specs.declared.entry.Reply.TheVariants.{Made}
@@ -114,3 +115,26 @@ own_by_log origin hs f _ legal fits = tt
 -- and by what of its log is its own
 pub numbers_by_own : (origin : Origin) (hs : List Happened) (f : ℕ) (call : Call) → IsLegal origin hs → NumbersFit origin (own (log hs f)) f call → NumbersFit origin hs f call
 numbers_by_own origin hs f call legal fits = numbers_by_log origin hs f call legal (own_by_log origin hs f call legal fits)
+
+-- ---- and the other way: what a fiber made and didn't take, its own log tells
+
+module _ (P : Happened → Bool) where
+  kept_made : (hs : List Happened) (f : ℕ) (call : Call) (n : ℕ) → P (event f call (Made n)) ≡ true → HasMade hs f call n → HasMade (filter P hs) f call n
+  kept_made hs f call n kept made =
+      let h : Happened = event f call (Made n) in
+      record {
+        front = filter P made.front;
+        back = filter P made.back;
+        is = ap (filter P) made.is ∙ (filter-append P made.front (h ∷ made.back) ∙ ap (λ (zs : List Happened). filter P made.front ++ zs) (kept_first P h made.back kept));
+      }
+
+pub made_in_own : (hs : List Happened) (f : ℕ) (call : Call) (n : ℕ) → is_turn call ≡ false → HasMade hs f call n → HasMade (own (log hs f)) f call n
+made_in_own hs f call n within made =
+    let h : Happened = event f call (Made n) in
+    kept_made (λ (x : Happened). not (is_due x)) (log hs f) f call n (ap not (unmarked h refl)) (kept_made (is_logged f) hs f call n (logged h f refl within) made)
+
+pub place_in_own : (origin : Origin) (hs : List Happened) (f p c t : ℕ) → NumbersFit origin hs f (Attach p c t) → NumbersFit origin (own (log hs f)) f (Attach p c t)
+place_in_own origin hs f p c t fits = (
+  made_in_own hs f NewPlace p refl fits.0,
+  each_kept (λ (x : Happened). not (is_due x)) (λ h. Takes p h → ⊥) (log hs f) (each_kept (is_logged f) (λ h. Takes p h → ⊥) hs fits.1),
+)

@@ -1,7 +1,8 @@
 -- The routines by which fibers wait. At each of their phases a call is asked for, and its reply leads to the
 -- next one. A phase at which nothing is asked is an end of the routine; what asks on there is the statement
 -- that it stands in.
-use Rattle.std.specs.Prelude.{ℕ, zero, suc, cond, unwrap_or, Option, Some, None}
+use Rattle.std.specs.Prelude.{ℕ, zero, suc, cond, unwrap_or, IfSome, MatchOption, ⊤, Option, Some, None, List}
+use Rattle.std.specs.List.{AllByRecursion}
 use Rattle.pic_base.specs.declared.action.Action.TheVariants.{Resume}
 use Rattle.pic_base.specs.declared.outcome.Outcome.TheVariants.{Returned, Cancelled}
 use Rattle.pic_machine.specs.declared.entry.ArmReply.TheVariants as arm
@@ -12,6 +13,8 @@ use Rattle.pic_machine.specs.declared.entry.Reply.{Reply}
 use Rattle.pic_machine.specs.declared.entry.Reply.TheVariants as reply
 use Rattle.pic_machine.specs.declared.waits.Parts.{Parts}
 use Rattle.pic_machine.specs.declared.waits.Standing.{Standing}
+use Rattle.pic_machine.specs.Happened.{Happened}
+use Rattle.pic_machine.specs.History.{HasMade, Takes}
 use Rattle.pic_machine.specs.Routine.{Routine}
 
 -- ---- making ready to wait: a trigger, and where the fiber is permitted to be told of a cancellation a place
@@ -44,6 +47,20 @@ making_at zero parts = trigger
 making_at (suc zero) parts = place (unwrap_or parts.trigger 0)
 making_at (suc (suc zero)) parts = made (unwrap_or parts.trigger 0) parts.place
 making_at _ parts = full
+
+-- fiber f, of this log, made the place, and nothing is attached there
+abbrev pub HasOwnPlace : ℕ → List Happened → ℕ → Type 0
+HasOwnPlace f mine a = HasMade mine f NewPlace a × AllByRecursion (λ h. Takes a h → ⊥) mine
+
+-- it made the trigger
+abbrev pub HasOwnTrigger : ℕ → List Happened → Parts → Type 0
+HasOwnTrigger f mine parts = MatchOption parts.trigger ⊥ (λ t. HasMade mine f NewTrigger t)
+
+-- what of the parts it has made, as far as it is
+abbrev pub HasMaking : ℕ → ℕ → List Happened → Parts → Type 0
+HasMaking (suc zero) f mine parts = HasOwnTrigger f mine parts
+HasMaking (suc (suc zero)) f mine parts = HasOwnTrigger f mine parts × IfSome parts.place (HasOwnPlace f mine)
+HasMaking _ f mine parts = ⊤
 
 -- ---- waiting for a trigger
 

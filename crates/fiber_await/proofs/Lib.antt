@@ -6,3 +6,5 @@ pub mod Running
 pub mod Readying
 pub mod Halving
 pub mod Fulfilling
+pub mod Owning
+pub mod Stages

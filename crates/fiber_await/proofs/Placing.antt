@@ -1,14 +1,14 @@
 -- A place that was just made is free.
-use Rattle.std.proofs.Common.{◌≡◌, ℕ, List, [], ◌∷◌, ◌++◌, sym, ◌∙◌, append_assoc}
+use Rattle.std.proofs.Common.{◌≡◌, ℕ, ◌≤◌, List, [], ◌∷◌, ◌++◌, sym, subst, ◌∙◌, append_assoc}
 use Rattle.std.specs.Prelude.{Result, IfOk}
 use Rattle.pic_machine.specs.declared.entry.Call.TheVariants.{Attach, NewPlace}
 use Rattle.pic_machine.specs.declared.entry.Reply.TheVariants.{Made}
 use Rattle.pic_machine.specs.declared.port.PortFault.{PortFault}
 use Rattle.pic_machine.specs.Happened.{Happened}
-use Rattle.pic_machine.specs.History.{NumbersFit, event}
+use Rattle.pic_machine.specs.History.{IsLegal, NumbersFit, Origin, event, world}
 use Rattle.pic_machine.specs.Lending.{Called}
 use Rattle.pic_machine.specs.Sight.{Carry, Notes, Sight, fiber_of}
-use Rattle.pic_machine.proofs.Numbers.{fresh_place}
+use Rattle.pic_machine.proofs.Numbers.{fresh_place, later_place}
 use Rattle.fiber_await.proofs.Answering.{on_ok}
 use Rattle.fiber_await.proofs.Reserving.{called_behind}
 
@@ -25,3 +25,12 @@ module _ {S : Type 0} (p q : Sight S) (a r b : Carry S) where
 
   pub each_free : (result : Result ℕ PortFault) → Notes a r [] → IfOk result (λ n. Called p q r b NewPlace (Made n)) → IfOk result (MayTake q (fiber_of a))
   each_free result notes made = on_ok (λ n. Called p q r b NewPlace (Made n)) (MayTake q (fiber_of a)) result (λ n called. free_called n notes called) made
+
+  -- no place that stood has its number
+  pub each_fresh : (result : Result ℕ PortFault) → Notes a r [] → IfOk result (λ n. Called p q r b NewPlace (Made n)) → IfOk result (λ n. (world p.origin p.front).places ≤ n)
+  each_fresh result notes made = on_ok (λ n. Called p q r b NewPlace (Made n)) (λ n. (world p.origin p.front).places ≤ n) result (λ n called. fresh_called n notes called) made where
+    fresh_called : (n : ℕ) → Notes a r [] → Called p q r b NewPlace (Made n) → (world p.origin p.front).places ≤ n
+    fresh_called n notes called =
+        let made = (called_behind p q a r b NewPlace (Made n) notes called).made in
+        let legal : IsLegal p.origin q.front = subst (λ (o : Origin). IsLegal o q.front) made.later.origin made.legal in
+        later_place p.origin p.front made.others q.front (fiber_of a) n legal made.later.front

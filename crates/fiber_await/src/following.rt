@@ -133,11 +133,13 @@ fn look_at<P: Port>(
     if parts.at != LOOKING && parts.at != WOKEN {
         return Ok(None);
     }
-    let seen = peek(port, body, comp)?;
-    if seen.is_none() {
-        parts.at = MAKING;
+    match peek(port, body, comp)? {
+        Some(outcome) => Ok(Some(outcome)),
+        None => {
+            parts.at = MAKING;
+            Ok(None)
+        }
     }
-    Ok(seen)
 }
 
 /// Makes the trigger and both places, where that is next.

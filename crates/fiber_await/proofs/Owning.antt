@@ -1,6 +1,6 @@
 -- What a fiber has of its own stays so while it goes on, and so do its numbers; and what it may call with them.
-use Rattle.std.proofs.Common.{◌≡◌, ◌≢◌, ℕ, zero, suc, ◌+◌, ◌<◌, ◌≤◌, ◌⊎◌, inl, inr, Option, Some, None, List, [], ◌∷◌, ◌++◌, length, refl, sym, ap, subst, ◌∙◌, append-nil, arith}
-use Rattle.std.specs.Prelude.{IfSome, MatchOption}
+use Rattle.std.proofs.Common.{◌≡◌, ◌≢◌, ℕ, zero, suc, ◌+◌, ◌-◌, ◌<◌, ◌≤◌, ◌⊎◌, inl, inr, Option, Some, None, List, [], ◌∷◌, ◌++◌, length, refl, sym, ap, subst, ◌∙◌, append-nil, arith}
+use Rattle.std.specs.Prelude.{IfSome, MatchOption, unwrap_or}
 use Rattle.std.specs.List.{AllByRecursion}
 use Rattle.pic_base.specs.declared.action.Action.TheVariants.{Resume}
 use Rattle.pic_base.specs.declared.duty.Duty.{Duty}
@@ -26,7 +26,7 @@ use Rattle.pic_machine.proofs.NumbersByLog.{numbers_by_own, place_in_own}
 use Rattle.pic_machine.proofs.Owns.{own-append}
 use Rattle.pic_machine.proofs.Turns.{same_fiber}
 use Rattle.fiber_await.specs.Doing.{Did, IsFree}
-use Rattle.fiber_await.specs.Phases.{MakesOwn, Owns, Stands}
+use Rattle.fiber_await.specs.Phases.{HasTrigger, MakesOwn, Owns, Stands, trigger_of}
 
 -- ---- own logs
 
@@ -134,6 +134,31 @@ from_making (suc (suc zero)) f mine parts few has = has
 from_making (suc (suc (suc zero))) f mine parts few has = tt
 from_making (suc (suc (suc (suc n)))) f mine parts few has = absurd (omega (arith, few))
 
+module _ {S : Type 0} (p q : Sight S) (a b : Carry S) where
+  -- making ready, as a part of a wait for a computation
+  pub owns_first : (parts later : Parts) → 0 < parts.at → parts.at < 4 → later.at < 4 → MakesOwn p q a b (record parts { at = parts.at - 1 }) later → Owns p a parts → Owns q b (record later { at = later.at + 1 })
+  owns_first parts later least most few makes has =
+      let back : parts.at ≡ (parts.at - 1) + 1 = omega (arith, least) in
+      from_making later.at (fiber_of b) (own_of q b) later few
+      (makes (to_making (parts.at - 1) (fiber_of a) (own_of p a) parts (omega (arith, most)) (subst (λ (k : ℕ). HasParts k (fiber_of a) (own_of p a) parts) back has)))
+
+known_trigger : (f : ℕ) (mine : List Happened) (o : Option ℕ) → MatchOption o ⊥ (λ t. HasMade mine f NewTrigger t) → o ≢ None
+known_trigger f mine None has is = has
+known_trigger f mine (Some t) has is = cc
+
+-- it knows its trigger
+pub first_known : {S : Type 0} (p : Sight S) (a : Carry S) (parts : Parts) → 0 < parts.at → parts.at < 4 → Owns p a parts → HasTrigger (record parts { at = parts.at - 1 })
+first_known p a parts least most has stage = at stage where
+  back : parts.at ≡ (parts.at - 1) + 1
+  back = omega (arith, least)
+
+  making : HasMaking (parts.at - 1) (fiber_of a) (own_of p a) (record parts { at = parts.at - 1 })
+  making = to_making (parts.at - 1) (fiber_of a) (own_of p a) parts (omega (arith, most)) (subst (λ (k : ℕ). HasParts k (fiber_of a) (own_of p a) parts) back has)
+
+  at : (parts.at - 1 ≡ 1) ⊎ (parts.at - 1 ≡ 2) → parts.trigger ≢ None
+  at (inl one) = known_trigger (fiber_of a) (own_of p a) parts.trigger (subst (λ (k : ℕ). HasMaking k (fiber_of a) (own_of p a) (record parts { at = parts.at - 1 })) one making)
+  at (inr two) = known_trigger (fiber_of a) (own_of p a) parts.trigger (subst (λ (k : ℕ). HasMaking k (fiber_of a) (own_of p a) (record parts { at = parts.at - 1 })) two making).0
+
 -- from the attaching to its own computation on it has the trigger
 pub trigger_kept : {S : Type 0} (p : Sight S) (a : Carry S) (parts : Parts) → 5 < parts.at → parts.at < 11 → Owns p a parts → Triggers p a parts.trigger
 trigger_kept p a parts least most has = at parts.at least has where
@@ -221,3 +246,20 @@ attaches p a parts c t n free stands five trigger second has =
     let known : Some was.1.place ≡ Some n = sym was.1.known ∙ second in
     let same : was.1.place ≡ n = cc in
     attach_may p a free n c t stands (subst (Triggers p a) trigger was.0.0) (subst (λ (k : ℕ). HasOwnPlace (fiber_of a) (own_of p a) k) same was.1.free)
+
+has_trigger : (f : ℕ) (mine : List Happened) (o : Option ℕ) → MatchOption o ⊥ (λ t. HasMade mine f NewTrigger t) → HasMade mine f NewTrigger (unwrap_or o 0)
+has_trigger f mine None has = absurd has
+has_trigger f mine (Some t) has = has
+
+-- and those that the attachment to its own computation wants
+pub sleepy_may : {S : Type 0} (p : Sight S) (a : Carry S) (parts : Parts) (c : ℕ) → IsFree p a → Stands p c → 5 < parts.at → Owns p a parts
+    → IfSome parts.place (λ place. parts.at - 4 ≡ 2 → MayMake p.origin p.front (fiber_of a) (Attach place c (trigger_of parts)))
+sleepy_may p a parts c free stands least has = at parts.place refl where
+  here : (n : ℕ) → parts.place ≡ Some n → parts.at ≡ 6 → MayMake p.origin p.front (fiber_of a) (Attach n c (trigger_of parts))
+  here n placed six =
+      let was = subst (λ (k : ℕ). HasParts k (fiber_of a) (own_of p a) parts) six has in
+      attach_may p a free n c (trigger_of parts) stands (has_trigger (fiber_of a) (own_of p a) parts.trigger was.0) (subst (Places p a) placed was.1)
+
+  at : (o : Option ℕ) → parts.place ≡ o → IfSome o (λ place. parts.at - 4 ≡ 2 → MayMake p.origin p.front (fiber_of a) (Attach place c (trigger_of parts)))
+  at None placed = tt
+  at (Some n) placed two = here n placed (omega (arith, least, two))

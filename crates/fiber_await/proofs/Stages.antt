@@ -1,29 +1,38 @@
 -- A wait for a computation, stage by stage, by one call or a routine of its own at most each.
 use Rattle.std.proofs.Common.{◌≡◌, ◌≢◌, ℕ, zero, suc, ◌+◌, ◌-◌, ◌<◌, ◌≤◌, ◌⊎◌, inl, inr, Option, Some, None, List, [], ◌∷◌, ◌++◌, refl, sym, ap, subst, ◌∙◌, arith}
-use Rattle.std.specs.Prelude.{Ok, unwrap_or}
+use Rattle.std.specs.Prelude.{Result, Ok, Err, IfErr, unwrap_or}
+use Rattle.pic_base.specs.declared.action.Action.TheVariants.{Resume}
 use Rattle.pic_base.specs.declared.outcome.Outcome.{Outcome}
 use Rattle.pic_machine.specs.declared.entry.AttachReply.{AttachReply}
 use Rattle.pic_machine.specs.declared.entry.AttachReply.TheVariants as attach
 use Rattle.pic_machine.specs.declared.entry.Call.TheVariants.{NewPlace, Attach, Peek, Signal}
 use Rattle.pic_machine.specs.declared.entry.Reply.TheVariants as reply
 use Rattle.pic_machine.specs.declared.entry.SignalReply.{SignalReply}
+use Rattle.pic_machine.specs.declared.entry.SignalReply.TheVariants.{Plain, Acted, Already}
+use Rattle.pic_machine.specs.declared.port.PortFault.{PortFault}
+use Rattle.pic_machine.specs.declared.port.PortFault.TheVariants.{Full, Again, Memory}
 use Rattle.pic_machine.specs.declared.waits.Parts.{Parts}
 use Rattle.pic_machine.specs.declared.waits.Standing.{Standing}
 use Rattle.pic_machine.specs.Following.{Following, finished, following, following_at, following_leads, looked, peeking, placing, readying, refused, suspending}
 use Rattle.pic_machine.specs.Happened.{Happened}
 use Rattle.pic_machine.specs.History.{event}
+use Rattle.pic_machine.specs.Lending.{Answered, Lent}
 use Rattle.pic_machine.specs.Order.{GoesOn, readied}
-use Rattle.pic_machine.specs.Routine.{Goes, Routine, Within}
+use Rattle.pic_machine.specs.Routine.{Goes, Routine, Within, goes, stays}
 use Rattle.pic_machine.specs.Sight.{Carry, Sight, fiber_of}
 use Rattle.pic_machine.specs.Turning.{Adds, Grew}
 use Rattle.pic_machine.specs.Waits.{Making, Waiting, arming, awake, full, made, making, making_at, over, told, trigger, waiting, waiting_at, waits, woken}
+use Rattle.pic_machine.proofs.Freeing.{lent_free}
 use Rattle.pic_machine.proofs.Lists.{each-append}
 use Rattle.pic_machine.proofs.Embedded.{goes_within, readies, waits_within}
-use Rattle.pic_machine.proofs.Turns.{Adds-nil, Grew-trans, readied-append, same_fiber}
+use Rattle.pic_machine.proofs.Owns.{answered_called}
+use Rattle.pic_machine.proofs.Turns.{Adds-nil, Grew-trans, grew_made, readied-append, same_fiber}
 use Rattle.fiber_await.specs.declared.ahead.Ahead.{Ahead}
 use Rattle.fiber_await.specs.declared.ahead.Ahead.TheVariants as ahead
-use Rattle.fiber_await.specs.Doing.{Did, Ran, RanTelling}
-use Rattle.fiber_await.specs.Phases.{done_or_at, suspended_at, trigger_of, unsuspended_at}
+use Rattle.fiber_await.specs.Discharging.{resumed_by}
+use Rattle.fiber_await.specs.Doing.{Did, IsFree, Ran, RanTelling}
+use Rattle.fiber_await.specs.Phases.{FollowGaveUp, done_or_at, suspended_at, trigger_of, unsuspended_at}
+use Rattle.fiber_await.specs.Refusing.{GaveUp}
 use Rattle.fiber_await.proofs.Running.{Goes-trans, Ran-trans, ran_none, ran_one}
 
 module _ {S Phase : Type 0} (r : Routine Phase) (p q : Sight S) (a b : Carry S) where
@@ -134,23 +143,25 @@ module _ {S : Type 0} (p q : Sight S) (a b : Carry S) where
       (ran_within (waiting s (fiber_of a) (trigger_of parts)) p q a b (waits_within s (fiber_of a) c (trigger_of parts)) ran)
 
   -- ---- looking at the computation
-  pub looked_at : (s : Standing) (c : ℕ) (parts : Parts) (seen : Option Outcome) (next : Following) → (parts.at ≡ 0) ⊎ (parts.at ≡ 10) → looked (reply.Peeked seen) ≡ Some next
+  pub looked_at : (s : Standing) (c : ℕ) (parts : Parts) (seen saw : Option Outcome) (next : Following) → (parts.at ≡ 0) ⊎ (parts.at ≡ 10) → seen ≡ saw → looked (reply.Peeked saw) ≡ Some next
       → Did p q a b (event (fiber_of a) (Peek c) (reply.Peeked seen) ∷ []) → Ran (following s (fiber_of a) c) p q a b (following_at s parts.at parts) next
-  looked_at s c parts seen next (inl zero_is) leads did =
+  looked_at s c parts seen saw next (inl zero_is) same leads did =
       ran_named (following s (fiber_of a) c) p q a b (ap (λ (k : ℕ). following_at s k parts) zero_is) refl
-      (ran_one (following s (fiber_of a) c) p q a b peeking next (Peek c) (reply.Peeked seen) refl leads did)
-  looked_at s c parts seen next (inr ten) leads did =
+      (ran_one (following s (fiber_of a) c) p q a b peeking next (Peek c) (reply.Peeked seen) refl (ap (λ (o : Option Outcome). looked (reply.Peeked o)) same ∙ leads) did)
+  looked_at s c parts seen saw next (inr ten) same leads did =
       ran_named (following s (fiber_of a) c) p q a b (ap (λ (k : ℕ). following_at s k parts) ten) refl
-      (ran_one (following s (fiber_of a) c) p q a b (suspending (trigger_of parts) (over woken)) next (Peek c) (reply.Peeked seen) refl leads did)
+      (ran_one (following s (fiber_of a) c) p q a b (suspending (trigger_of parts) (over woken)) next (Peek c) (reply.Peeked seen) refl (ap (λ (o : Option Outcome). looked (reply.Peeked o)) same ∙ leads) did)
 
   -- ---- attaching to the computation
-  pub attached_to : (s : Standing) (c : ℕ) (parts : Parts) (t n : ℕ) (how : AttachReply) (next : Following) → parts.at ≡ 5 → parts.trigger ≡ Some t → parts.second ≡ Some n
-      → following_leads s (placing t parts.place n) (reply.Attached how) ≡ Some next → Did p q a b (event (fiber_of a) (Attach n c t) (reply.Attached how) ∷ [])
-      → Ran (following s (fiber_of a) c) p q a b (following_at s parts.at parts) next
-  attached_to s c parts t n how next five trigger_is second_is leads did =
-      ran_named (following s (fiber_of a) c) p q a b
-      (ap (λ (k : ℕ). following_at s k parts) five ∙ (ap (λ (o : Option ℕ). placing (unwrap_or o 0) parts.place (unwrap_or parts.second 0)) trigger_is ∙ ap (λ (o : Option ℕ). placing t parts.place (unwrap_or o 0)) second_is)) refl
-      (ran_one (following s (fiber_of a) c) p q a b (placing t parts.place n) next (Attach n c t) (reply.Attached how) refl leads did)
+  pub attached_to : (s : Standing) (c : ℕ) (parts : Parts) (t n : ℕ) (told_so how : AttachReply) (next : Following) → parts.at ≡ 5 → parts.trigger ≡ Some t → parts.second ≡ Some n → told_so ≡ how
+      → following_leads s (placing (trigger_of parts) parts.place (unwrap_or parts.second 0)) (reply.Attached how) ≡ Some next
+      → Did p q a b (event (fiber_of a) (Attach n c t) (reply.Attached told_so) ∷ []) → Ran (following s (fiber_of a) c) p q a b (following_at s parts.at parts) next
+  attached_to s c parts t n told_so how next five trigger_is second_is same leads did =
+      let asked : Some (Attach (unwrap_or parts.second 0) c (trigger_of parts)) ≡ Some (Attach n c t) =
+      ap (λ (o : Option ℕ). Some (Attach (unwrap_or o 0) c (trigger_of parts))) second_is ∙ ap (λ (o : Option ℕ). Some (Attach n c (unwrap_or o 0))) trigger_is in
+      ran_named (following s (fiber_of a) c) p q a b (ap (λ (k : ℕ). following_at s k parts) five) refl
+      (ran_one (following s (fiber_of a) c) p q a b (placing (trigger_of parts) parts.place (unwrap_or parts.second 0)) next (Attach n c t) (reply.Attached told_so) asked
+      (ap (λ (h : AttachReply). following_leads s (placing (trigger_of parts) parts.place (unwrap_or parts.second 0)) (reply.Attached h)) same ∙ leads) did)
 
   -- ---- falling asleep
   pub fell_asleep : (s : Standing) (c : ℕ) (parts : Parts) (w : Waiting) → 5 < parts.at → parts.at < 8
@@ -170,3 +181,65 @@ module _ {S : Type 0} (p q : Sight S) (a b : Carry S) where
     at (inr seven) =
         ran_named (following s (fiber_of a) c) p q a b (ap (λ (k : ℕ). following_at s k parts) seven) refl
         (ran_within (waiting s (fiber_of a) (trigger_of parts)) p q a b (waits_within s (fiber_of a) c (trigger_of parts)) (inner 7 seven))
+
+-- why making ready gave up, in the words of the wait that it is a part of
+pub follow_gave_up : {S : Type 0} (p q : Sight S) (later : Parts) (result : Result (Unit {0}) PortFault) → IfErr result (λ fault. GaveUp fault later.at p q)
+    → IfErr result (λ fault. FollowGaveUp fault p q (record later { at = later.at + 1 }) (later.at + 1 ≢ 4))
+follow_gave_up p q later (Ok done) is = tt
+follow_gave_up p q later (Err Full) is = (omega (arith, is.0), is.1)
+follow_gave_up p q later (Err Again) is = (is.0, λ four. omega (arith, is.1, four))
+follow_gave_up p q later (Err Memory) is = (is.0, λ four. omega (arith, is.1, four))
+
+-- where the first half of the wait leads that tells this
+pub to_arming : (s : Standing) (tells : Ahead) (later : Parts) → tells ≡ ahead.Go → (Ok {E = PortFault} tells ≡ Ok ahead.Go → waiting_at s later.at later ≡ arming) → arming ≡ suspended_at s (Ok tells) later
+to_arming s ahead.Go later is go = sym (go refl)
+to_arming s (ahead.Cancelled code) later is go = absurd cc
+
+pub to_told : (s : Standing) (tells : Ahead) (code : ℕ) (later : Parts) → tells ≡ ahead.Cancelled code → over (told code) ≡ suspended_at s (Ok tells) later
+to_told s tells code later is = ap (λ (h : Ahead). suspended_at s (Ok h) later) (sym is)
+
+-- the computation was found running, or completed
+pub found_running : (s : Standing) (seen : Option Outcome) (later : Parts) → seen ≡ None → following_at s later.at later ≡ done_or_at s (Ok seen) later
+found_running s seen later is = ap (λ (o : Option Outcome). done_or_at s (Ok o) later) (sym is)
+
+pub found_done : (s : Standing) (seen : Option Outcome) (outcome : Outcome) (later : Parts) → seen ≡ Some outcome → finished outcome ≡ done_or_at s (Ok seen) later
+found_done s seen outcome later is = ap (λ (o : Option Outcome). done_or_at s (Ok o) later) (sym is)
+
+readied_signal : (f t : ℕ) (how : SignalReply) → readied (event f (Signal t) (reply.Signalled how) ∷ []) ≡ resumed_by how
+readied_signal f t Plain = refl
+readied_signal f t (Acted (Resume g)) = refl
+readied_signal f t Already = refl
+
+module _ {S : Type 0} (p q : Sight S) (a b : Carry S) where
+  -- who was told signals the trigger
+  pub told_signals : (s : Standing) (c : ℕ) (parts : Parts) (t code : ℕ) (how : SignalReply) (line later : Option (List ℕ)) → IsFree p a → parts.at ≡ 8 → parts.trigger ≡ Some t → parts.second ≡ Some code
+      → Answered p q a b (Signal t) (reply.Signalled how) → Adds line later (resumed_by how) → RanTelling (following s (fiber_of a) c) p q a b line later (following_at s parts.at parts) (refused code)
+  told_signals s c parts t code how line later free eight trigger_is second_is answered adds =
+      let f = fiber_of a in
+      let h : Happened = event f (Signal t) (reply.Signalled how) in
+      let lent : Lent p q a b h = answered_called p q a b (Signal t) (reply.Signalled how) free.owes answered in
+      let from : following_at s parts.at parts ≡ suspending t (over (told code)) =
+      ap (λ (k : ℕ). following_at s k parts) eight
+      ∙ (ap (λ (o : Option ℕ). suspending (unwrap_or o 0) (over (told (unwrap_or parts.second 0)))) trigger_is ∙ ap (λ (o : Option ℕ). suspending t (over (told (unwrap_or o 0)))) second_is) in
+      record {
+        went = record {
+          going = h ∷ [];
+          grew = grew_made p q f h lent.made refl refl;
+          on = (refl, tt);
+          line = subst (Adds line later) (sym (readied_signal f t how)) adds;
+          holds = lent.holds;
+          number = lent.number;
+        };
+        goes = subst (λ (x : Following). Goes (following s f c) f x (h ∷ []) (refused code)) (sym from) (goes (Signal t) (reply.Signalled how) refl refl stays);
+        free = record {
+          holds = lent.holds;
+          fiber = subst (λ (n : ℕ). n ≢ 0) (sym (same_fiber a b lent.number)) free.fiber;
+          owes = lent_free p q a b h lent free.holds refl tt free.owes;
+        };
+        birth = lent.birth;
+        share = lent.share;
+      }
+
+  -- what made nobody ready, in other words
+  pub telling_as : {Phase : Type 0} {r : Routine Phase} {x y z : Phase} (line : Option (List ℕ)) → z ≡ y → Ran r p q a b x y → RanTelling r p q a b line line x z
+  telling_as {r = r} line same ran = ran_telling r p q a b line (ran_named r p q a b refl same ran)

@@ -1,5 +1,5 @@
 -- Calls of a fiber that owes nothing which didn't get what they asked for.
-use Rattle.std.specs.Prelude.{◌≡◌, ℕ, [], ◌∷◌}
+use Rattle.std.specs.Prelude.{◌≡◌, ℕ, ◌<◌, [], ◌∷◌}
 use Rattle.pic_machine.specs.declared.entry.Call.{Call}
 use Rattle.pic_machine.specs.declared.entry.Reply.TheVariants as reply
 use Rattle.pic_machine.specs.declared.port.PortFault.{PortFault}
@@ -18,7 +18,8 @@ abbrev pub RefusedMaking : {S : Type 0} → PortFault → Sight S → Sight S �
 RefusedMaking Full old new before now call = Did old new before now (event (fiber_of before) call reply.Full ∷ []) × Calm old new
 RefusedMaking fault old new before now call = Refused fault old new before now
 
--- why making ready gave up, which has come so far then: a limit was met, as its parts say, or a call was refused
+-- why making ready gave up, which has come so far then: a limit was met, as its parts say, or a call was refused, and it
+-- may go on
 abbrev pub GaveUp : {S : Type 0} → PortFault → ℕ → Sight S → Sight S → Type 0
 GaveUp Full at old new = (at ≡ 3) × Calm old new
-GaveUp fault at old new = Faulted fault old new
+GaveUp fault at old new = Faulted fault old new × (at < 3)

@@ -1,5 +1,6 @@
 //! Waiting for a computation.
 ghost use Rattle.std.specs.Prelude.{◌≡◌, ◌≢◌, ◌<◌, ◌≤◌, ◌⊎◌, ℕ, IfErr, Ok, OnOk};
+ghost use Rattle.std.specs.Bool.{OnFalse, OnTrue};
 ghost use Rattle.pic_machine.specs.Following.{IsFollowing, following, following_at};
 ghost use Rattle.pic_machine.specs.Lending.{Calm, Faulted};
 ghost use Rattle.pic_machine.specs.Log.{log, own};
@@ -130,7 +131,7 @@ fn look_at<P: Port>(
     ensures gave_up { IfErr result (λ fault. Faulted fault (P.sight port.old) (P.sight port.new)) }
     ensures rest { P.Body.same_rest body.old body.new }
 {
-    if parts.at != LOOKING && parts.at != WOKEN {
+    if !is_to_look(parts.at) {
         return Ok(None);
     }
     match peek(port, body, comp)? {
@@ -140,6 +141,14 @@ fn look_at<P: Port>(
             Ok(None)
         }
     }
+}
+
+/// Whether a wait that is so far looks at the computation next.
+fn is_to_look(at: u8) -> bool
+    ensures yes { OnTrue result ((at ≡ 0) ⊎ (at ≡ 10)) }
+    ensures no { OnFalse result ((at ≢ 0) × (at ≢ 10)) }
+{
+    at == LOOKING || at == WOKEN
 }
 
 /// Makes the trigger and both places, where that is next.

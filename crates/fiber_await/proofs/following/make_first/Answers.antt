@@ -1,16 +1,18 @@
-use Rattle.std.proofs.Common.{rules, ◌≡◌, ◌≢◌, ◌<◌, ◌≤◌, ◌⊎◌, ℕ, IfErr, Ok, OnOk, ◌+◌, ◌-◌, ◌*◌, length, ◌/◌, ◌%◌, Bool, true, false, nat_eq, nat_lt, List, [], ◌∷◌, ◌++◌, slice_index_or, slice_set, bit_and, bit_or, Fits, w8, w32, w64, Bor, MutBor}
-use Rattle.pic_machine.specs.Following.{IsFollowing, following, following_at}
-use Rattle.pic_machine.specs.Lending.{Calm, Faulted}
-use Rattle.pic_machine.specs.Log.{log, own}
-use Rattle.pic_machine.specs.Sight.{fiber_of}
-use Rattle.fiber_await.specs.Doing.{IsFree, Ran, RanTelling}
-use Rattle.fiber_await.specs.Phases.{FollowGaveUp, Owns, Stands, Unless, done_or_at, followed_at, told_at}
+use Rattle.fiber_await.proofs.Owning.{first_known, owns_first}
+use Rattle.fiber_await.proofs.Stages.{first_made, follow_gave_up}
 use Rattle.fiber_await.proofs.following.make_first.Goals as goal
 
--- src/following.rt:175:1
-pub returns-clause-ran : goal.returns-clause-ran
-returns-clause-ran g c = ?
+pub make_ready-ready-requires-clause-trigger : goal.make_ready-ready-requires-clause-trigger
+make_ready-ready-requires-clause-trigger g c = first_known (g.P.Port.sight c.args.port.now) (g.P.Body.Carried.seen c.args.body.now) c.args.parts.now c.requires.at.0 c.requires.at.1 c.requires.own
 
--- src/following.rt:175:1
+pub returns-clause-ran : goal.returns-clause-ran
+returns-clause-ran g c comp =
+    first_made _ _ _ _ c.args.s.now comp c.args.parts.now c.make_ready-ready.new.parts c.requires.at.0 c.requires.at.1 c.make_ready-ready.ensures.at c.make_ready-ready.ensures.ran
+
+pub returns-clause-own : goal.returns-clause-own
+returns-clause-own g c =
+    owns_first (g.P.Port.sight c.args.port.now) (g.P.Port.sight c.make_ready-ready.new.port) (g.P.Body.Carried.seen c.args.body.now) (g.P.Body.Carried.seen c.make_ready-ready.new.body) c.args.parts.now c.make_ready-ready.new.parts c.requires.at.0 c.requires.at.1 c.make_ready-ready.ensures.at c.make_ready-ready.ensures.own c.requires.own
+
 pub returns-clause-gave_up : goal.returns-clause-gave_up
-returns-clause-gave_up g c = ?
+returns-clause-gave_up g c =
+    follow_gave_up (g.P.Port.sight c.args.port.now) (g.P.Port.sight c.make_ready-ready.new.port) c.make_ready-ready.new.parts c.make_ready-ready.result c.make_ready-ready.ensures.gave_up

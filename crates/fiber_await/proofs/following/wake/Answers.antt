@@ -19,7 +19,7 @@ returns-in-Go-clause-ran g c comp = woken_up _ _ _ _ _ comp c.args.parts.now c.i
 pub returns-in-Go-clause-own : goal.returns-in-Go-clause-own
 returns-in-Go-clause-own g c =
     trigger_still _ _ _ _ _ (c.in_ok-unsuspend.ensures.ran 0).did c.args.parts.now.trigger
-    (trigger_kept _ _ c.args.parts.now (omega (arith, c.if-parts-ne-AWAKE.false)) c.requires.at c.requires.own)
+    (trigger_kept (g.P.Port.sight c.args.port.now) (g.P.Body.Carried.seen c.args.body.now) c.args.parts.now (omega (arith, c.if-parts-ne-AWAKE.false)) c.requires.at c.requires.own)
 
 pub returns-in-Cancelled-clause-ran : goal.returns-in-Cancelled-clause-ran
 returns-in-Cancelled-clause-ran g c comp =
@@ -28,7 +28,7 @@ returns-in-Cancelled-clause-ran g c comp =
 pub returns-in-Cancelled-clause-own : goal.returns-in-Cancelled-clause-own
 returns-in-Cancelled-clause-own g c = (
   trigger_still _ _ _ _ _ (c.in_ok-unsuspend.ensures.ran 0).did c.args.parts.now.trigger
-      (trigger_kept _ _ c.args.parts.now (omega (arith, c.if-parts-ne-AWAKE.false)) c.requires.at c.requires.own),
+      (trigger_kept (g.P.Port.sight c.args.port.now) (g.P.Body.Carried.seen c.args.body.now) c.args.parts.now (omega (arith, c.if-parts-ne-AWAKE.false)) c.requires.at c.requires.own),
   λ is. cc,
 )
 

@@ -10,16 +10,14 @@ use Rattle.pic_machine.specs.declared.entry.Reply.{Reply}
 use Rattle.pic_machine.specs.declared.entry.Reply.TheVariants as reply
 use Rattle.pic_machine.specs.declared.waits.Parts.{Parts}
 use Rattle.pic_machine.specs.Duty.{DutiesAllow}
-use Rattle.pic_machine.specs.Following.{HasAttaching, HasParts, HasSecondPlace}
+use Rattle.pic_machine.specs.Following.{HasAttaching, HasParts}
 use Rattle.pic_machine.specs.Happened.{Happened}
 use Rattle.pic_machine.specs.History.{HasMade, MayMake, NumbersFit, Origin, Takes, event, world}
 use Rattle.pic_machine.specs.Log.{log, own}
 use Rattle.pic_machine.specs.Sight.{Carry, Sight, fiber_of}
-use Rattle.pic_machine.specs.State.{State, owed_of}
 use Rattle.pic_machine.specs.Step.{ArmsOwn, NamesStand}
 use Rattle.pic_machine.specs.Waits.{HasMaking, HasOwnPlace}
 use Rattle.pic_machine.proofs.Comps.{comps_stay}
-use Rattle.pic_machine.proofs.Histories.{world_from-append}
 use Rattle.pic_machine.proofs.Lists.{each-append}
 use Rattle.pic_machine.proofs.Numbers.{made_place, made_stays, made_trigger, triggers_from}
 use Rattle.pic_machine.proofs.NumbersByLog.{numbers_by_own, place_in_own}
@@ -226,18 +224,20 @@ module _ {S : Type 0} (p q : Sight S) (a b : Carry S) where
       → (world p.origin p.front).places ≤ n → Owns p a parts → Owns q b (record parts { second = Some n; at = 5 })
   owns_second parts n free three did fits fresh has =
       let es = event (fiber_of a) NewPlace (reply.Made n) ∷ [] in
-      let was = subst (λ (k : ℕ). HasParts k (fiber_of a) (own_of p a) parts) three has in
-      ((trigger_still p q a b es did parts.trigger was.0, place_still_new p q a b n parts.place did was.1),
-      record { place = n; known = refl; free = place_new p q a b n es did fits; other = place_other p a free n parts.place fresh was.1 })
+      let was = subst (λ (k : ℕ). HasParts k (fiber_of a) (own_of p a) parts) three has in (
+        (trigger_still p q a b es did parts.trigger was.0, place_still_new p q a b n parts.place did was.1),
+        record { place = n; known = refl; free = place_new p q a b n es did fits; other = place_other p a free n parts.place fresh was.1 },
+      )
 
   -- the second one is taken
   pub owns_attached : (parts : Parts) (n c t : ℕ) (r : Reply) → parts.at ≡ 5 → parts.second ≡ Some n → Did p q a b (event (fiber_of a) (Attach n c t) r ∷ []) → Owns p a parts → Owns q b (record parts { at = 6 })
   owns_attached parts n c t r five second did has =
       let es = event (fiber_of a) (Attach n c t) r ∷ [] in
       let was = subst (λ (k : ℕ). HasParts k (fiber_of a) (own_of p a) parts) five has in
-      let known : Some was.1.place ≡ Some n = sym was.1.known ∙ second in
-      (trigger_still p q a b es did parts.trigger was.0.0,
-      place_still_attached p q a b n c t r parts.place (λ is. was.1.other (is ∙ sym known)) did was.0.1)
+      let known : Some was.1.place ≡ Some n = sym was.1.known ∙ second in (
+        trigger_still p q a b es did parts.trigger was.0.0,
+        place_still_attached p q a b n c t r parts.place (λ is. was.1.other (is ∙ sym known)) did was.0.1,
+      )
 
 -- the places and the trigger that an attachment wants
 pub attaches : {S : Type 0} (p : Sight S) (a : Carry S) (parts : Parts) (c t n : ℕ) → IsFree p a → Stands p c → parts.at ≡ 5 → parts.trigger ≡ Some t → parts.second ≡ Some n → Owns p a parts → MayMake p.origin p.front (fiber_of a) (Attach n c t)
@@ -262,4 +262,4 @@ sleepy_may p a parts c free stands least has = at parts.place refl where
 
   at : (o : Option ℕ) → parts.place ≡ o → IfSome o (λ place. parts.at - 4 ≡ 2 → MayMake p.origin p.front (fiber_of a) (Attach place c (trigger_of parts)))
   at None placed = tt
-  at (Some n) placed two = here n placed (omega (arith, least, two))
+  at (Some n) placed = λ two. here n placed (omega (arith, least, two))

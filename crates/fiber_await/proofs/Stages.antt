@@ -1,10 +1,9 @@
 -- A wait for a computation, stage by stage, by one call or a routine of its own at most each.
-use Rattle.std.proofs.Common.{◌≡◌, ◌≢◌, ℕ, zero, suc, ◌+◌, ◌-◌, ◌<◌, ◌≤◌, ◌⊎◌, inl, inr, Option, Some, None, List, [], ◌∷◌, ◌++◌, refl, sym, ap, subst, ◌∙◌, arith}
+use Rattle.std.proofs.Common.{◌≡◌, ◌≢◌, ℕ, zero, suc, ◌+◌, ◌-◌, ◌<◌, ◌⊎◌, inl, inr, Option, Some, None, List, [], ◌∷◌, ◌++◌, refl, sym, ap, subst, ◌∙◌, arith}
 use Rattle.std.specs.Prelude.{Result, Ok, Err, IfErr, unwrap_or}
 use Rattle.pic_base.specs.declared.action.Action.TheVariants.{Resume}
 use Rattle.pic_base.specs.declared.outcome.Outcome.{Outcome}
 use Rattle.pic_machine.specs.declared.entry.AttachReply.{AttachReply}
-use Rattle.pic_machine.specs.declared.entry.AttachReply.TheVariants as attach
 use Rattle.pic_machine.specs.declared.entry.Call.TheVariants.{NewPlace, Attach, Peek, Signal}
 use Rattle.pic_machine.specs.declared.entry.Reply.TheVariants as reply
 use Rattle.pic_machine.specs.declared.entry.SignalReply.{SignalReply}
@@ -21,7 +20,7 @@ use Rattle.pic_machine.specs.Order.{GoesOn, readied}
 use Rattle.pic_machine.specs.Routine.{Goes, Routine, Within, goes, stays}
 use Rattle.pic_machine.specs.Sight.{Carry, Sight, fiber_of}
 use Rattle.pic_machine.specs.Turning.{Adds, Grew}
-use Rattle.pic_machine.specs.Waits.{Making, Waiting, arming, awake, full, made, making, making_at, over, told, trigger, waiting, waiting_at, waits, woken}
+use Rattle.pic_machine.specs.Waits.{Waiting, arming, awake, full, made, making, making_at, over, told, waiting, waiting_at, woken}
 use Rattle.pic_machine.proofs.Freeing.{lent_free}
 use Rattle.pic_machine.proofs.Lists.{each-append}
 use Rattle.pic_machine.proofs.Embedded.{goes_within, readies, waits_within}
@@ -190,8 +189,11 @@ follow_gave_up p q later (Err Full) is = (omega (arith, is.0), is.1)
 follow_gave_up p q later (Err Again) is = (is.0, λ four. omega (arith, is.1, four))
 follow_gave_up p q later (Err Memory) is = (is.0, λ four. omega (arith, is.1, four))
 
+abbrev pub tells_so : Ahead → Result Ahead PortFault
+tells_so tells = Ok tells
+
 -- where the first half of the wait leads that tells this
-pub to_arming : (s : Standing) (tells : Ahead) (later : Parts) → tells ≡ ahead.Go → (Ok {E = PortFault} tells ≡ Ok ahead.Go → waiting_at s later.at later ≡ arming) → arming ≡ suspended_at s (Ok tells) later
+pub to_arming : (s : Standing) (tells : Ahead) (later : Parts) → tells ≡ ahead.Go → (tells_so tells ≡ tells_so ahead.Go → waiting_at s later.at later ≡ arming) → arming ≡ suspended_at s (Ok tells) later
 to_arming s ahead.Go later is go = sym (go refl)
 to_arming s (ahead.Cancelled code) later is go = absurd cc
 

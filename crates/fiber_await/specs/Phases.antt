@@ -73,11 +73,6 @@ abbrev pub Unless : Result (Option Outcome) PortFault → Type 0 → Type 0
 Unless (Ok (Some outcome)) Then = ⊤
 Unless _ Then = Then
 
--- where it is behind the signal of who was told
-abbrev pub told_at : Standing → Result CompAhead PortFault → Parts → Following
-told_at s (Ok (comp.Cancelled code)) parts = refused code
-told_at s _ parts = following_at s parts.at parts
-
 -- where it is behind a call that goes as far as it can
 abbrev pub followed_at : Standing → Result CompAhead PortFault → Parts → Following
 followed_at s (Ok (comp.Done outcome)) parts = finished outcome

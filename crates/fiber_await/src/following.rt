@@ -6,7 +6,7 @@ ghost use Rattle.pic_machine.specs.Lending.{Calm, Faulted};
 ghost use Rattle.pic_machine.specs.Log.{log, own};
 ghost use Rattle.pic_machine.specs.Sight.{fiber_of};
 ghost use Rattle.fiber_await.specs.Doing.{IsFree, Ran, RanTelling};
-ghost use Rattle.fiber_await.specs.Phases.{FollowGaveUp, Owns, Stands, Unless, done_or_at, followed_at, told_at};
+ghost use Rattle.fiber_await.specs.Phases.{FollowGaveUp, Owns, Stands, Unless, done_or_at, followed_at};
 
 use crate::ahead::{Ahead, CompAhead};
 use crate::calls::{attach, new_place, peek, signal};
@@ -335,7 +335,7 @@ fn give_up<P: Port, R: ReadyLine>(
     ensures ran { (s : Standing) → (comp : ℕ) → RanTelling (following s (fiber_of (P.Body.seen body.old)) comp)
         (P.sight port.old) (P.sight port.new) (P.Body.seen body.old) (P.Body.seen body.new)
         (R.told line.old) (R.told line.new)
-        (following_at s parts.now.at parts.now) (told_at s result parts.now) }
+        (following_at s parts.now.at parts.now) (followed_at s result parts.now) }
     ensures over { OnOk result (result ≢ Ok CompAhead.Park) }
     ensures own { Owns (P.sight port.new) (P.Body.seen body.new) parts.now }
     ensures calm { OnOk result (Calm (P.sight port.old) (P.sight port.new)) }

@@ -12,6 +12,13 @@
 //!   leads: each of these calls goes by such a table (`Ran`, `specs/Doing`), from the phase that the parts of
 //!   the wait tell to the one that it leaves, however it ends (`specs/Phases`). Whoever calls them owes nothing,
 //!   and owes nothing behind them.
+//! - `await_comp` waits for a computation, by the table `following` (`specs/Following` of `pic_machine`), in
+//!   which making ready and waiting stand as they are: it looks at the computation, and while that runs makes
+//!   ready, with a second place at which the computation gets the trigger, and waits; woken it looks again.
+//!   Where it says `Park`, a port's `park` is next, with `armed` parts in the body. A fiber that is told of the
+//!   cancellation of its own computation signals the trigger, so that nothing that it left attached wakes
+//!   anybody; the ready line is told whom that made ready. What of the parts is the fiber's own, and may be
+//!   used when the call is made again, its contract says (`IsFollowing`).
 //! - `discharge` makes the entries that a fiber owes after a call, until it owes nothing. All of them have the
 //!   mark of what was owed (`Discharged`, `specs/Discharging`), so the fiber's own log, of which the meaning of
 //!   texts speaks, is as it was.

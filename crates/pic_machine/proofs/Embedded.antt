@@ -1,10 +1,10 @@
 -- Routines stand in one another as they are: what the inner one comes by, the outer one comes by.
-use Rattle.std.proofs.Common.{◌≡◌, ℕ, Option, Some, None, List, ap}
+use Rattle.std.proofs.Common.{◌≡◌, ℕ, Some, None, List, ap}
 use Rattle.std.specs.Option.{option_map}
 use Rattle.pic_machine.specs.declared.entry.Call.{Call}
 use Rattle.pic_machine.specs.declared.entry.Reply.{Reply}
 use Rattle.pic_machine.specs.declared.waits.Standing.{Standing}
-use Rattle.pic_machine.specs.Following.{Following, following, following_asks, following_leads, readying, suspending}
+use Rattle.pic_machine.specs.Following.{following, following_asks, following_leads, readying, suspending}
 use Rattle.pic_machine.specs.Happened.{Happened}
 use Rattle.pic_machine.specs.Routine.{Goes, Routine, Within, goes, stays}
 use Rattle.pic_machine.specs.Waits.{Making, Waiting, arming, attaching, checking, full, made, making, making_asks, making_leads, over, place, trigger, waiting, waiting_asks, waiting_leads}

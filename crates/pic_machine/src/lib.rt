@@ -6,7 +6,8 @@
 //! part of a world), `Happened` and `History` (legal histories and births), `Log` (what one fiber did, and
 //! what of it was its own), `Completing` (how computations were completed), `Final` (nothing is left to
 //! do, or something is) and `Order` (the turns of one worker, first ready, first run, or by another pick).
-//! `Routine` says what a fiber does as a table of calls and replies, and `Waits` has the tables of waiting.
+//! `Routine` says what a fiber does as a table of calls and replies, `Waits` has the tables of waiting for a
+//! trigger, and `Following` that of waiting for a computation.
 //! `World` is the machine itself: its calls are exactly the definition's start and step. What holds of every
 //! legal history, whoever acts in it, `Laws` says, in the words of `Once` (what happens once), `Signalling`
 //! (what becomes of attached triggers) and `Suspending` (who waits for what).
@@ -26,7 +27,8 @@
 //! behind one (`Lendings`, `Freeing`), how turns and the answers of polls are put together and stand in order
 //! (`Turns`, `Polls`), that the ready list has exactly the live fibers (`Readiness`), that where not all is
 //! over somebody is live or owes (`Finals`), and where nobody is live all is over (`Rests`), how many waits
-//! and turns there can be where fibers yield so often (`Parks`, `Turnings`), what a log tells of how its fiber
+//! and turns there can be where fibers yield so often (`Parks`, `Turnings`), how one routine stands in another
+//! one (`Embedded`), what a log tells of how its fiber
 //! and the computations ended (`Ends`, `Fates`, `Completions`), that all duties are signals (`Dues`), and that
 //! `Laws` holds (`Lawfully`). It stands on `pic_base`.
 #![tactic(auto)]

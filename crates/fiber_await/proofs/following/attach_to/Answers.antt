@@ -1,6 +1,5 @@
 use Rattle.std.proofs.Common.{refl}
 use Rattle.std.proofs.lemmas.Result.{err_from_is_err_and}
-use Rattle.pic_base.specs.declared.outcome.Outcome.{Outcome}
 use Rattle.pic_machine.specs.declared.entry.AttachReply.TheVariants.{Attached, Completed}
 use Rattle.pic_machine.specs.declared.entry.Reply.TheVariants as reply
 use Rattle.fiber_await.proofs.Owning.{attaches, owns_attached}

@@ -1,7 +1,6 @@
 use Rattle.fiber_await.specs.declared.ahead.Ahead.TheVariants.{Go, Cancelled}
 use Rattle.fiber_await.specs.Phases.{trigger_of}
 use Rattle.std.proofs.Common.{refl, arith}
-use Rattle.std.proofs.lemmas.Result.{err_from_is_err_and}
 use Rattle.fiber_await.proofs.Owning.{owns_still, trigger_kept, trigger_still}
 use Rattle.fiber_await.proofs.Running.{did_none}
 use Rattle.fiber_await.proofs.Stages.{following_still, woken_up}

@@ -10,7 +10,7 @@ use Rattle.pic_machine.specs.declared.entry.Reply.{Reply}
 use Rattle.pic_machine.specs.declared.entry.Reply.TheVariants as reply
 use Rattle.pic_machine.specs.declared.waits.Parts.{Parts}
 use Rattle.pic_machine.specs.Duty.{DutiesAllow}
-use Rattle.pic_machine.specs.Following.{HasAttaching, HasParts}
+use Rattle.pic_machine.specs.Following.{HasAttaching, HasParts, IsFollowing}
 use Rattle.pic_machine.specs.Happened.{Happened}
 use Rattle.pic_machine.specs.History.{HasMade, MayMake, NumbersFit, Origin, Takes, event, world}
 use Rattle.pic_machine.specs.Log.{log, own}
@@ -263,3 +263,23 @@ sleepy_may p a parts c free stands least has = at parts.place refl where
   at : (o : Option ℕ) → parts.place ≡ o → IfSome o (λ place. parts.at - 4 ≡ 2 → MayMake p.origin p.front (fiber_of a) (Attach place c (trigger_of parts)))
   at None placed = tt
   at (Some n) placed = λ two. here n placed (omega (arith, least, two))
+
+-- ---- behind a call that says `Park`
+
+-- the arming is allowed
+pub arm_may : {S : Type 0} (p : Sight S) (a : Carry S) (parts : Parts) → IsFree p a → parts.at ≡ 7 → IsFollowing (fiber_of a) (own_of p a) parts
+    → MayMake p.origin p.front (fiber_of a) (Arm (trigger_of parts) (Resume (fiber_of a)))
+arm_may p a parts free seven on =
+    let f = fiber_of a in
+    let has : Triggers p a parts.trigger = trigger_kept p a parts (omega (arith, seven)) on.at on.has in
+    let made : HasMade (own_of p a) f NewTrigger (trigger_of parts) = has_trigger f (own_of p a) parts.trigger has in
+    may_call p a free (Arm (trigger_of parts) (Resume f)) (trigger_stands p a free (trigger_of parts) made) refl
+    (numbers_by_own p.origin p.front f (Arm (trigger_of parts) (Resume f)) free.holds.legal (inr made))
+
+-- and the armed parts may be gone on with behind it, whatever its reply
+pub armed_follows : (f : ℕ) (mine : List Happened) (h : Happened) (parts : Parts) → parts.at ≡ 7 → IsFollowing f mine parts → IsFollowing f (mine ++ h ∷ []) (record parts { at = 9 })
+armed_follows f mine h parts seven on = record {
+  at = omega arith;
+  going = λ four. omega (arith, four);
+  has = more_trigger f mine (h ∷ []) parts.trigger (subst (λ (k : ℕ). HasParts k f mine parts) seven on.has);
+}

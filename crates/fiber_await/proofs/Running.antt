@@ -4,13 +4,15 @@ use Rattle.pic_machine.specs.declared.entry.Call.{Call}
 use Rattle.pic_machine.specs.declared.entry.Reply.{Reply}
 use Rattle.pic_machine.specs.Happened.{Happened}
 use Rattle.pic_machine.specs.History.{event}
+use Rattle.pic_machine.specs.Log.{log, own}
 use Rattle.pic_machine.specs.Order.{GoesOn, readied}
 use Rattle.pic_machine.specs.Routine.{Goes, Routine, goes, stays}
 use Rattle.pic_machine.specs.Sight.{Carry, Sight, fiber_of}
 use Rattle.pic_machine.specs.Turning.{Grew, Went}
 use Rattle.pic_machine.proofs.Lists.{each-append}
+use Rattle.pic_machine.proofs.Owns.{own-append}
 use Rattle.pic_machine.proofs.Turns.{Adds-nil, Grew-trans, grew_same, readied-append, same_fiber}
-use Rattle.fiber_await.specs.Doing.{Did, IsFree, Ran}
+use Rattle.fiber_await.specs.Doing.{Did, IsFree, Ran, RanTelling}
 
 module _ {Phase : Type 0} (r : Routine Phase) (f : ℕ) where
   pub Goes-trans : {p m q : Phase} {xs ys : List Happened} → Goes r f p xs m → Goes r f m ys q → Goes r f p (xs ++ ys) q
@@ -59,3 +61,15 @@ module _ {S Phase : Type 0} (routine : Routine Phase) (p q r : Sight S) (a b c :
     did = Did-trans p q r a b c one.es other.es one.did other.did;
     goes = Goes-trans routine (fiber_of a) one.goes (subst (λ (f : ℕ). Goes routine f y other.es z) (same_fiber a b one.did.number) other.goes);
   }
+
+-- what a routine asks for is all the fiber's own
+pub goes_own : {Phase : Type 0} (r : Routine Phase) (f : ℕ) {p q : Phase} {hs : List Happened} → Goes r f p hs q → own hs ≡ hs
+goes_own r f stays = refl
+goes_own r f (goes {hs = hs} call reply asks leads rest) = ap (λ (zs : List Happened). event f call reply ∷ zs) (goes_own r f rest)
+
+-- so its own log grew by just that
+pub telling_own : {S Phase : Type 0} (r : Routine Phase) (p q : Sight S) (a b : Carry S) (line later : Option (List ℕ)) (x y : Phase) (ran : RanTelling r p q a b line later x y)
+    → own (log q.front (fiber_of a)) ≡ own (log p.front (fiber_of a)) ++ ran.went.going
+telling_own r p q a b line later x y ran =
+    let before = log p.front (fiber_of a) in
+    ap own ran.went.grew.log ∙ (own-append before ran.went.going ∙ ap (λ (zs : List Happened). own before ++ zs) (goes_own r (fiber_of a) ran.goes))

@@ -22,7 +22,7 @@ use pic_machine::{AttachReply, Parts, Port, PortFault, ReadyLine, Standing};
 /// Waits until the computation is completed, as far as can be done in one turn. It begins with parts of
 /// which nothing is made, and goes on from where the parts say that it is, also behind a refusal. Where it
 /// says `Park`, the trigger of the parts is to be armed next, with `armed` parts for what comes behind.
-/// `Full` where a limit of the machine was met, which ends the wait; what it left waits for nobody.
+/// `Full` where a limit of the machine was met, as an entry and the parts say, which ends the wait.
 pub fn await_comp<P: Port, R: ReadyLine>(
     port: &mut P,
     line: &mut R,

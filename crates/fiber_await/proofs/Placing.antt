@@ -1,5 +1,5 @@
 -- A place that was just made is free.
-use Rattle.std.proofs.Common.{◌≡◌, ℕ, List, [], ◌∷◌, ◌++◌, sym, ◌∙◌, append_assoc}
+use Rattle.std.proofs.Common.{ℕ, [], ◌∷◌, ◌++◌, sym, ◌∙◌, append_assoc}
 use Rattle.std.specs.Prelude.{Result, IfOk}
 use Rattle.pic_machine.specs.declared.entry.Call.TheVariants.{Attach, NewPlace}
 use Rattle.pic_machine.specs.declared.entry.Reply.TheVariants.{Made}

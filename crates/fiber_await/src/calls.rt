@@ -7,9 +7,7 @@ ghost use Rattle.fiber_await.specs.Doing.{Did, IsFree};
 ghost use Rattle.fiber_await.specs.Refusing.{Refused, RefusedMaking};
 
 use pic_base::{CompNo, Outcome, PlaceNo, TriggerNo};
-use pic_machine::{
-    AttachReply, Call, Carried, Port, PortFault, Reply, SignalReply, TrigState,
-};
+use pic_machine::{AttachReply, Call, Carried, Port, PortFault, Reply, SignalReply, TrigState};
 
 /// Makes a trigger.
 pub(crate) fn new_trigger<P: Port>(port: &mut P, body: &mut P::Body) -> Result<TriggerNo, PortFault>

@@ -18,7 +18,10 @@ pub enum Exit {
 #[derive(Clone, Copy, Debug, PartialEq, Eq)]
 pub enum Standing {
     /// In the block with this number, before the statement with this place, or at the block's end.
-    At { block: u32, place: u32 },
+    At {
+        block: u32,
+        place: u32,
+    },
     /// Within the statement with this place, from one of its calls to the next one.
     Within {
         block: u32,

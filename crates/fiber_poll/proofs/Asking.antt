@@ -1,6 +1,6 @@
 -- Statements that ask for one call: which one, and where its entry leads.
 use Rattle.std.specs.Prelude.{IsTrue}
-use Rattle.std.proofs.Common.{◌≡◌, ◌≢◌, ℕ, zero, suc, ◌+◌, ◌<◌, ◌≤◌, ◌==◌, Bool, false, cond, slice_get, Option, Some, None, List, [], ◌∷◌, ◌++◌, length, refl, sym, ap, subst, ◌∙◌, arith}
+use Rattle.std.proofs.Common.{◌≡◌, ◌≢◌, ℕ, zero, suc, ◌+◌, ◌<◌, ◌≤◌, ◌==◌, Bool, false, cond, slice_get, Option, Some, None, List, [], ◌∷◌, ◌++◌, refl, sym, ap, subst, ◌∙◌, arith}
 use Rattle.pic_machine.specs.declared.birth.Birth.{Birth}
 use Rattle.pic_machine.specs.declared.entry.Call.{Call}
 use Rattle.pic_machine.specs.declared.entry.Call.TheVariants as asked
@@ -17,7 +17,7 @@ use Rattle.script_tree.specs.declared.program.Stmt.{Stmt}
 use Rattle.script_tree.specs.declared.program.Stmt.TheVariants as stmt
 use Rattle.script_tree.specs.declared.thing.Sort.{Sort}
 use Rattle.script_tree.specs.declared.thing.Sort.TheVariants as sort
-use Rattle.script_tree.specs.Names.{sort_of, sort_number}
+use Rattle.script_tree.specs.Names.{sort_number}
 use Rattle.script_tree.specs.Tree.{Tree}
 use Rattle.script_tree.specs.WellFormed.{IsComp, IsOfSort, StmtFits}
 use Rattle.fiber_body.specs.declared.standing.Exit.{Exit}
@@ -177,8 +177,8 @@ module _ (tree : Tree) (c : Context) where
       let found = comp_there tree comp fits.1.0 built in
       let triggers = numbers_of sort.Trigger 0 tree.decls in
       absurd (let there : attaches_to r found.0 trigger.0 looks ≡ calls one =
-          subst (λ (o : Option ℕ). begins_named o one (λ n. attaches_to r found.0 n looks) ≡ calls one) trigger.1
-          (subst (λ (o : Option ℕ). begins_named o one (λ k. begins_named (slice_get triggers place) one (λ n. attaches_to r k n looks)) ≡ calls one) found.1 is) in cc)
+      subst (λ (o : Option ℕ). begins_named o one (λ n. attaches_to r found.0 n looks) ≡ calls one) trigger.1
+      (subst (λ (o : Option ℕ). begins_named o one (λ k. begins_named (slice_get triggers place) one (λ n. attaches_to r k n looks)) ≡ calls one) found.1 is) in cc)
   asks_by holder _ fits built none is apart = first_of (search (named, signalled, fits, built), cc)
 
   module _ (numbers : Numbering) (counted : numbers ≡ numbering tree.decls) (one : Stmt) (can : CanRun tree one) (none : result c.registers c.cells one ≡ None) (is : first (numbering tree.decls) c one ≡ calls one) (apart : one ≢ stmt.Yield) where

@@ -1,10 +1,10 @@
 -- What statements name that look at a trigger first is declared, and stands.
-use Rattle.std.proofs.Common.{◌≡◌, ◌≢◌, ℕ, ◌+◌, ◌-◌, ◌<◌, ◌≤◌, Option, Some, None, List, [], ◌∷◌, length, slice_get, refl, sym, ap, subst, ◌∙◌, arith}
+use Rattle.std.proofs.Common.{◌≡◌, ◌≢◌, ℕ, ◌-◌, ◌≤◌, Option, Some, None, List, [], ◌∷◌, slice_get, refl, sym, ap, subst, ◌∙◌, arith}
 use Rattle.pic_machine.specs.declared.entry.Call.TheVariants as asked
 use Rattle.pic_machine.specs.declared.entry.Reply.TheVariants as reply
 use Rattle.pic_machine.specs.declared.state.TrigState.{TrigState}
 use Rattle.pic_machine.specs.declared.state.TrigState.TheVariants as trig
-use Rattle.pic_machine.specs.History.{event, world}
+use Rattle.pic_machine.specs.History.{event}
 use Rattle.pic_machine.specs.Sight.{Sight, fiber_of}
 use Rattle.fiber_await.specs.Doing.{Did}
 use Rattle.script_tree.specs.declared.program.CompRef.{CompRef}
@@ -34,6 +34,10 @@ use Rattle.fiber_poll.proofs.Looks.{NamesBoth, on_looked, on_seen, on_signalled}
 pub is_numbered : {numbers counted : Numbering} (place : ℕ) {found : Option ℕ} (t : ℕ) → numbers ≡ counted → found ≡ slice_get numbers.triggers place → slice_get counted.triggers place ≡ Some t → found ≢ None
 is_numbered place t same found_is number none =
     let both : Some t ≡ None = sym number ∙ (sym (ap (λ (ns : Numbering). slice_get ns.triggers place) same) ∙ (sym found_is ∙ none)) in cc
+
+pub is_numbered_comp : {numbers counted : Numbering} (comp : CompRef) {found : Option ℕ} (k : ℕ) → numbers ≡ counted → found ≡ comp_in numbers.comps comp → comp_in counted.comps comp ≡ Some k → found ≢ None
+is_numbered_comp comp k same found_is number none =
+    let both : Some k ≡ None = sym number ∙ (sym (ap (λ (ns : Numbering). comp_in ns.comps comp) same) ∙ (sym found_is ∙ none)) in cc
 
 -- any other statement with a call has one
 pub calls_else : (numbers : Numbering) (c : Context) (one : Stmt) → HasCall c one → ((t : ℕ) → one ≢ stmt.Await t) → ((r : ℕ) (comp : CompRef) (t : ℕ) → one ≢ stmt.Attach r comp t) → first numbers c one ≡ calls one
@@ -72,30 +76,31 @@ module _ (tree : Tree) where
       let two : other.0 ≡ t = cc in
       record { register = can.fits.0; comp = subst (λ (n : ℕ). n ≤ count_of sort.Comp tree.decls) one first.2; trigger = subst (IsDeclared tree) two other.2 }
 
-  module _ {p q : Sight (Option Tree)} (a b : Shown) {d : Shown} (line : Option (List ℕ)) (spot : Spot) (of : IsPortOf tree p) (up : IsUp p a) where
+  module _ {p : Sight (Option Tree)} (a : Shown) (of : IsPortOf tree p) (up : IsUp p a) where
     program_is : script_in a.program ≡ tree
     program_is = ap script_in (program_up tree p a of up)
-
-    pub await_seen : (place t : ℕ) (state : TrigState) (there : Standing) (steps : ℕ) → CanRun tree (stmt.Await place) → IsBefore a spot (stmt.Await place) → slice_get (numbering tree.decls).triggers place ≡ Some t
-        → Did p q (carry_of a) (carry_of b) (event (fiber_of (carry_of a)) (asked.Look t) (reply.Seen state) ∷ []) → IsSameRest a b → there ≡ seen_by_wait spot a.context.permitted t state → steps ≡ b.context.steps → d ≡ stood b there (steps - 1) → IsOn p q a d line line
-    await_seen place t state there steps can before number did same there_is left is =
-        on_seen a b line spot place t state there steps up before (subst (λ (tr : Tree). slice_get (numbering tr.decls).triggers place ≡ Some t) (sym program_is) number)
-        (subst (λ (tr : Tree). IsDeclared tr t) (sym program_is) (await_declared place t can number)) did same there_is left is
 
     names_both : (comp : CompRef) (place k t : ℕ) → comp_in (numbering tree.decls).comps comp ≡ Some k → slice_get (numbering tree.decls).triggers place ≡ Some t → NamesBoth a comp place k t
     names_both comp place k t comp_is trigger_is =
         subst (λ (tr : Tree). (comp_in (numbering tr.decls).comps comp ≡ Some k) × (slice_get (numbering tr.decls).triggers place ≡ Some t)) (sym program_is) (comp_is, trigger_is)
 
+  module _ {p q : Sight (Option Tree)} (a b : Shown) {d : Shown} (line : Option (List ℕ)) (spot : Spot) (of : IsPortOf tree p) (up : IsUp p a) where
+    pub await_seen : (place t : ℕ) (state : TrigState) (there : Standing) (steps : ℕ) → CanRun tree (stmt.Await place) → IsBefore a spot (stmt.Await place) → slice_get (numbering tree.decls).triggers place ≡ Some t
+        → Did p q (carry_of a) (carry_of b) (event (fiber_of (carry_of a)) (asked.Look t) (reply.Seen state) ∷ []) → IsSameRest a b → there ≡ seen_by_wait spot a.context.permitted t state → steps ≡ b.context.steps → d ≡ stood b there (steps - 1) → IsOn p q a d line line
+    await_seen place t state there steps can before number did same there_is left is =
+        on_seen a b line spot place t state there steps up before (subst (λ (tr : Tree). slice_get (numbering tr.decls).triggers place ≡ Some t) (sym (program_is a of up)) number)
+        (subst (λ (tr : Tree). IsDeclared tr t) (sym (program_is a of up)) (await_declared place t can number)) did same there_is left is
+
     pub attach_signalled : (r : ℕ) (comp : CompRef) (place k t : ℕ) (state : TrigState) (steps : ℕ) (there : Standing) (e : Shown) → IsBefore a spot (stmt.Attach r comp place) → comp_in (numbering tree.decls).comps comp ≡ Some k → slice_get (numbering tree.decls).triggers place ≡ Some t
         → state ≡ trig.Signalled → Did p q (carry_of a) (carry_of b) (event (fiber_of (carry_of a)) (asked.Look t) (reply.Seen state) ∷ []) → IsSameRest a b → steps ≡ b.context.steps
         → e ≡ record b { context = with_register b.context r 0 } → there ≡ behind_at spot Next → d ≡ stood e there (steps - 1) → IsOn p q a d line line
     attach_signalled r comp place k t state steps there e before comp_is trigger_is so did same left set there_is is =
-        on_signalled a b line spot r comp place k t steps there e up before (names_both comp place k t comp_is trigger_is)
+        on_signalled a b line spot r comp place k t steps there e up before (names_both a of up comp place k t comp_is trigger_is)
         (subst (λ (x : TrigState). Did p q (carry_of a) (carry_of b) (event (fiber_of (carry_of a)) (asked.Look t) (reply.Seen x) ∷ [])) so did) same left set there_is is
 
     pub attach_looked : (r : ℕ) (comp : CompRef) (place k t : ℕ) (state : TrigState) (steps : ℕ) (there : Standing) → CanRun tree (stmt.Attach r comp place) → IsBefore a spot (stmt.Attach r comp place) → comp_in (numbering tree.decls).comps comp ≡ Some k → slice_get (numbering tree.decls).triggers place ≡ Some t
         → state ≢ trig.Signalled → Did p q (carry_of a) (carry_of b) (event (fiber_of (carry_of a)) (asked.Look t) (reply.Seen state) ∷ []) → IsSameRest a b
         → there ≡ Within spot.block spot.place (Attaches r k t None) → steps ≡ b.context.steps → d ≡ stood b there (steps - 1) → IsOn p q a d line line
     attach_looked r comp place k t state steps there can before comp_is trigger_is other did same there_is left is =
-        on_looked a b line spot r comp place k t state steps there up before (names_both comp place k t comp_is trigger_is)
-        (subst (λ (tr : Tree). OwnsAttachment tr r k t) (sym program_is) (attach_owned r comp place k t can comp_is trigger_is)) other did same there_is left is
+        on_looked a b line spot r comp place k t state steps there up before (names_both a of up comp place k t comp_is trigger_is)
+        (subst (λ (tr : Tree). OwnsAttachment tr r k t) (sym (program_is a of up)) (attach_owned r comp place k t can comp_is trigger_is)) other did same there_is left is

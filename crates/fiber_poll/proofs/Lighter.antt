@@ -1,5 +1,5 @@
 -- How much less a turn has still to do behind a stage of a statement.
-use Rattle.std.proofs.Common.{◌≡◌, ℕ, ◌+◌, ◌*◌, ◌-◌, ◌<◌, ◌≤◌, Bool, true, false, Option, Some, None, List, length, ap, ◌∙◌, arith}
+use Rattle.std.proofs.Common.{◌≡◌, ℕ, ◌+◌, ◌*◌, ◌<◌, ◌≤◌, Bool, true, false, Option, Some, None, List, length, ap, arith}
 use Rattle.pic_machine.specs.declared.state.TrigState.{TrigState}
 use Rattle.pic_machine.specs.declared.state.TrigState.TheVariants.{Initial, Awaiting, Signalled}
 use Rattle.fiber_body.specs.declared.standing.Exit.{Exit}

@@ -19,7 +19,6 @@ use Rattle.script_tree.specs.Tree.{Tree}
 use Rattle.fiber_body.specs.declared.standing.Exit.TheVariants.{Next, Raised}
 use Rattle.fiber_body.specs.declared.standing.Standing.{Standing}
 use Rattle.fiber_body.specs.declared.standing.Standing.TheVariants.{Within}
-use Rattle.fiber_body.specs.declared.under_way.UnderWay.{UnderWay}
 use Rattle.fiber_body.specs.declared.under_way.UnderWay.TheVariants.{Attaches}
 use Rattle.fiber_body.specs.Context.{Context, comp_in, numbering, stepped, taken_already, with_register}
 use Rattle.fiber_body.specs.Owns.{IsDeclared, OwnsAttachment, OwnsParts}

@@ -1,17 +1,17 @@
 -- Arming the trigger for which a statement waits: where the fiber is suspended, and where it goes on at once.
-use Rattle.std.proofs.Common.{◌≡◌, ◌≢◌, ℕ, Option, Some, List, [], ◌∷◌, ◌++◌, refl, sym, ap, subst, ◌∙◌}
+use Rattle.std.proofs.Common.{◌≡◌, ℕ, Option, Some, List, [], ◌∷◌, ◌++◌, refl, sym, ap, subst, ◌∙◌}
 use Rattle.std.specs.Prelude.{unwrap_or}
-use Rattle.std.specs.Option.{option_map}
 use Rattle.pic_base.specs.declared.action.Action.TheVariants.{Resume}
 use Rattle.pic_machine.specs.declared.entry.ArmReply.{ArmReply}
 use Rattle.pic_machine.specs.declared.entry.ArmReply.TheVariants as arm
 use Rattle.pic_machine.specs.declared.entry.Call.{Call}
 use Rattle.pic_machine.specs.declared.entry.Call.TheVariants.{Arm}
 use Rattle.pic_machine.specs.declared.entry.Reply.TheVariants.{Armed}
+use Rattle.pic_machine.specs.declared.port.ParkRefusal.{ParkRefusal}
 use Rattle.pic_machine.specs.declared.waits.Parts.{Parts}
 use Rattle.pic_machine.specs.Happened.{Happened}
 use Rattle.pic_machine.specs.History.{event}
-use Rattle.pic_machine.specs.Lending.{Called}
+use Rattle.pic_machine.specs.Lending.{Called, NotParked}
 use Rattle.pic_machine.specs.Log.{log, own}
 use Rattle.pic_machine.specs.Sight.{Sight, fiber_of}
 use Rattle.pic_machine.specs.Waits.{Waiting, arming, awake, over, taken, waiting_at}
@@ -28,7 +28,7 @@ use Rattle.fiber_body.specs.Phases.{Phase, awaits_trigger, suspending}
 use Rattle.fiber_body.specs.Shown.{IsSameRest, Shown, carry_of, stood}
 use Rattle.fiber_body.specs.Tables.{leads}
 use Rattle.fiber_body.specs.Texts.{script_in}
-use Rattle.fiber_body.specs.Triggers.{phase_of, trigger_in, under}
+use Rattle.fiber_body.specs.Triggers.{trigger_in, under}
 use Rattle.fiber_poll.specs.declared.spot.Spot.{Spot}
 use Rattle.fiber_poll.specs.Moving.{behind_at}
 use Rattle.fiber_poll.specs.UnderWay.{IsOn, IsUp}
@@ -81,12 +81,8 @@ on_armed {p} {q} a back line spot parts t re next up parking free quiet led call
     on_amid line spot a.context next (event f (arms a t) (Armed re) ∷ []) up (did_called p q (carry_of a) (carry_of back) (arms a t) (Armed re) quiet (record { holds = up.holds; fiber = up.fiber; owes = free }) called) frames refl
     (within_up spot (Awaits parts) up parking.at).0 (arming_leads spot parts t up parking re next led) reached
 
-module _ {p q : Sight (Option Tree)} {a moved back : Shown} (line : Option (List ℕ)) (spot : Spot) (parts : Parts) (t n : ℕ) (up : IsUp p a) (parking : IsParking a spot parts t) (free : a.owes ≡ [])
-    (set : moved ≡ stood a (Within spot.block spot.place (Awake t)) n) (left : n ≡ a.context.steps) (same : IsSameRest moved back) where
-  -- the call was made with the body set ahead
-  called_set : (re : ArmReply) → Called p q (carry_of moved) (carry_of back) (arms moved t) (Armed re) → Called p q (carry_of a) (carry_of back) (arms a t) (Armed re)
-  called_set re called = subst (λ (z : Shown). Called p q (carry_of z) (carry_of back) (arms z t) (Armed re)) set called
-
+-- the body is back that was set ahead
+module _ (a : Shown) {moved back : Shown} (spot : Spot) (t n : ℕ) (set : moved ≡ stood a (Within spot.block spot.place (Awake t)) n) (left : n ≡ a.context.steps) (same : IsSameRest moved back) where
   frames_set : back.frames ≡ a.frames
   frames_set = same.frames ∙ ap (λ (z : Shown). z.frames) set
 
@@ -96,16 +92,34 @@ module _ {p q : Sight (Option Tree)} {a moved back : Shown} (line : Option (List
   back_is : back ≡ record back { standing = Within spot.block spot.place (Awake t); context = a.context }
   back_is = ap (λ (st : Standing). record back { standing = st }) (same.standing ∙ ap (λ (z : Shown). z.standing) set) ∙ ap (λ (c : Context). record back { standing = Within spot.block spot.place (Awake t); context = c }) context_set
 
+module _ {p q : Sight (Option Tree)} {a moved back : Shown} (line : Option (List ℕ)) (spot : Spot) (parts : Parts) (t n : ℕ) (up : IsUp p a) (parking : IsParking a spot parts t) (free : a.owes ≡ [])
+    (set : moved ≡ stood a (Within spot.block spot.place (Awake t)) n) (left : n ≡ a.context.steps) (same : IsSameRest moved back) where
+  -- the call was made with the body set ahead
+  called_set : (re : ArmReply) → Called p q (carry_of moved) (carry_of back) (arms moved t) (Armed re) → Called p q (carry_of a) (carry_of back) (arms a t) (Armed re)
+  called_set re called = subst (λ (z : Shown). Called p q (carry_of z) (carry_of back) (arms z t) (Armed re)) set called
+
+  -- it owes nothing then
+  pub free_back : (re : ArmReply) → IsQuiet (arms a t) (Armed re) → Called p q (carry_of moved) (carry_of back) (arms moved t) (Armed re) → back.owes ≡ []
+  free_back re quiet called = (did_called p q (carry_of a) (carry_of back) (arms a t) (Armed re) quiet (record { holds = up.holds; fiber = up.fiber; owes = free }) (called_set re called)).free.owes
+
   -- since its trigger was signalled
   pub on_awake : Called p q (carry_of moved) (carry_of back) (arms moved t) (Armed arm.Signalled) → IsOn p q a back line line
   on_awake called =
-      on_armed a back line spot parts t arm.Signalled (awaits_trigger t (suspending (awake (under a.context)))) up parking free (record { brings = tt; on = refl; none = λ f. refl; within = refl }) refl (called_set arm.Signalled called) frames_set
-      (stands (Awake t) refl (declared_trigger spot parts t up parking) back_is)
+      on_armed a back line spot parts t arm.Signalled (awaits_trigger t (suspending (awake (under a.context)))) up parking free (record { brings = tt; on = refl; none = λ f. refl; within = refl }) refl (called_set arm.Signalled called) (frames_set a spot t n set left same)
+      (stands (Awake t) refl (declared_trigger spot parts t up parking) (back_is a spot t n set left same))
 
   -- or was another's
   pub on_taken : {d : Shown} (there : Standing) → Called p q (carry_of moved) (carry_of back) (arms moved t) (Armed arm.Taken) → there ≡ behind_at spot (Raised taken_already) → d ≡ stood back there n → IsOn p q a d line line
   on_taken there called there_is is =
-      on_armed a back line spot parts t arm.Taken (awaits_trigger t (suspending (over taken))) up parking free (record { brings = tt; on = refl; none = λ f. refl; within = refl }) refl (called_set arm.Taken called) frames_set
+      on_armed a back line spot parts t arm.Taken (awaits_trigger t (suspending (over taken))) up parking free (record { brings = tt; on = refl; none = λ f. refl; within = refl }) refl (called_set arm.Taken called) (frames_set a spot t n set left same)
       (ends (Raised taken_already) a.context refl
-      (is ∙ (ap (λ (st : Standing). stood back st n) there_is ∙ (ap (λ (c : Context). record back { standing = behind_at spot (Raised taken_already); context = record c { steps = n } }) context_set
+      (is ∙ (ap (λ (st : Standing). stood back st n) there_is ∙ (ap (λ (c : Context). record back { standing = behind_at spot (Raised taken_already); context = record c { steps = n } }) (context_set a spot t n set left same)
       ∙ ap (λ (k : ℕ). record back { standing = behind_at spot (Raised taken_already); context = record a.context { steps = k } }) left))))
+
+-- what the port says where the fiber wasn't suspended
+module _ (p q : Sight (Option Tree)) (moved back : Shown) (t : ℕ) where
+  abbrev pub SetBack : ParkRefusal → Type 0
+  SetBack refusal = NotParked refusal p q (carry_of moved) (carry_of back) (arms moved t) × IsSameRest moved back
+
+  pub refused_so : {one : ParkRefusal} (other : ParkRefusal) → one ≡ other → SetBack one → SetBack other
+  refused_so other same none = subst SetBack same none

@@ -1,5 +1,5 @@
 -- Statements that look at a trigger first: where their further calls lead.
-use Rattle.std.proofs.Common.{◌≡◌, ◌≢◌, ℕ, ◌⊎◌, inl, Option, Some, None, List, [], ◌∷◌, ◌++◌, filter, not, refl, sym, ap, subst, ◌∙◌}
+use Rattle.std.proofs.Common.{◌≡◌, ◌≢◌, ℕ, ◌⊎◌, inl, Option, Some, None, List, [], ◌∷◌, ◌++◌, not, refl, sym, ap, subst, ◌∙◌}
 use Rattle.std.specs.List.{AllByRecursion}
 use Rattle.std.specs.Option.{IfSome, option_map}
 use Rattle.std.specs.Prelude.{Ok}
@@ -25,7 +25,7 @@ use Rattle.fiber_body.specs.declared.standing.Standing.TheVariants.{Within}
 use Rattle.fiber_body.specs.declared.under_way.UnderWay.{UnderWay}
 use Rattle.fiber_body.specs.declared.under_way.UnderWay.TheVariants.{Places, Awaits, Awake, Attaches}
 use Rattle.fiber_body.specs.Context.{Context, limit_met, with_register}
-use Rattle.fiber_body.specs.Owns.{OwnsAttachment, OwnsParts, OwnsPlace, OwnsWait}
+use Rattle.fiber_body.specs.Owns.{OwnsAttachment, OwnsParts, OwnsPlace}
 use Rattle.fiber_body.specs.Phases.{Attaching, Awaiting, Phase, answers, attaches, attaches_to, awaits_trigger, finds_no_place, placing, places, suspending, unplaced}
 use Rattle.fiber_body.specs.Shown.{IsSameRest, Shown, carry_of, stood}
 use Rattle.fiber_body.specs.Tables.{ends_by, settles}
@@ -48,10 +48,11 @@ owns_placed : (p q : Sight (Option Tree)) (a b : Carry (Option Tree)) (n : ℕ) 
 owns_placed p q a b n did free =
     let f = fiber_of a in
     let h : Happened = event f asked.NewPlace (reply.Made n) in
-    let Apart : Happened → Type 0 = λ x. Takes n x → ⊥ in
-    (record { front = own (log p.front f); back = []; is = refl },
-    subst (AllByRecursion Apart) (own_did p q a b (h ∷ []) refl did)
-    (each_kept (λ (x : Happened). not (is_due x)) Apart (log q.front f) (each_kept (is_logged f) Apart q.front (free 0 0).1)))
+    let Apart : Happened → Type 0 = λ x. Takes n x → ⊥ in (
+      record { front = own (log p.front f); back = []; is = refl },
+      subst (AllByRecursion Apart) (own_did p q a b (h ∷ []) refl did)
+          (each_kept (λ (x : Happened). not (is_due x)) Apart (log q.front f) (each_kept (is_logged f) Apart q.front (free 0 0).1)),
+    )
 
 abbrev placed_phase : Option ℕ → Awaiting
 placed_phase (Some n) = suspending (waits (Some n))
@@ -140,6 +141,10 @@ rides {p} a b line spot way t x y up at phase same ran reached =
 pub ran_under : {p q : Sight (Option Tree)} {a b : Carry (Option Tree)} {f t : ℕ} {u v : Under} (x y : Under → Waiting) → u ≡ v → Ran (waiting u f t) p q a b (x u) (y u) → Ran (waiting v f t) p q a b (x v) (y v)
 ran_under {p} {q} {a} {b} {f} {t} x y same ran = subst (λ (w : Under). Ran (waiting w f t) p q a b (x w) (y w)) same ran
 
+-- and of a phase that is known better
+pub ran_to : {p q : Sight (Option Tree)} {a b : Carry (Option Tree)} (u : Under) (f t : ℕ) {x y : Waiting} (z : Waiting) → y ≡ z → Ran (waiting u f t) p q a b x y → Ran (waiting u f t) p q a b x z
+ran_to {p} {q} {a} {b} u f t {x} z same ran = subst (Ran (waiting u f t) p q a b x) same ran
+
 -- its first half, up to the arming
 by_place : (P : ℕ → Type 0) (place : Option ℕ) → waits place ≡ arming → IfSome place P
 by_place P (Some n) is = absurd cc
@@ -158,8 +163,8 @@ on_ready {p} a b line spot parts later there steps up at same ran go so stage th
     let x = waiting_at (under a.context) later.at later in
     rides a b line spot (Awaits parts) (trigger_of parts) (waiting_at (under a.context) parts.at parts) x up at refl same ran
     (stands (Awaits later) (ap (λ (o : Option ℕ). awaits_trigger (trigger_in (record later { trigger = o })) (suspending x)) trigger)
-        (record { known = subst (λ (o : Option ℕ). o ≢ None) (sym trigger) kept.known; trigger = rw trigger kept.trigger; at = stage; place = keeps_no_place (under a.context) later (OwnsPlace f (own (log p.front f) ++ ran.es)) go })
-        (stands_there same there_is left is))
+    (record { known = subst (λ (o : Option ℕ). o ≢ None) (sym trigger) kept.known; trigger = rw trigger kept.trigger; at = stage; place = keeps_no_place (under a.context) later (OwnsPlace f (own (log p.front f) ++ ran.es)) go })
+    (stands_there same there_is left is))
 
 -- where it was told of the cancellation
 pub on_told : {p q : Sight (Option Tree)} (a b : Shown) {d : Shown} (line : Option (List ℕ)) (spot : Spot) (parts : Parts) (code : ℕ) (there : Standing) (steps : ℕ) → IsUp p a → a.standing ≡ Within spot.block spot.place (Awaits parts) → IsSameRest a b

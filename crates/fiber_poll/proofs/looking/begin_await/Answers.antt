@@ -1,4 +1,4 @@
-use Rattle.std.proofs.Common.{◌≡◌, ℕ, Some, slice_get, sym, ap, subst, ◌∙◌}
+use Rattle.std.proofs.Common.{◌≡◌, Some, slice_get, sym, ap, subst, ◌∙◌}
 use Rattle.pic_machine.specs.declared.waits.Standing.{Standing as Under}
 use Rattle.script_tree.specs.Tree.{Tree}
 use Rattle.fiber_body.specs.Context.{Numbering, numbering}
@@ -31,5 +31,5 @@ returns-clause-on g c line =
     let tree = c.args.poller.now in
     let counted : c.poller.inside.numbers ≡ numbering tree.decls = subst (λ (t : Tree). c.poller.inside.numbers ≡ numbering t.decls) c.poller.view_is c.poller.invariant in
     let number : slice_get (numbering tree.decls).triggers c.args.trigger ≡ Some c.in-Some.trigger = sym (ap (λ (ns : Numbering). slice_get ns.triggers c.args.trigger) counted) ∙ (sym c.trigger.ensures ∙ c.in-Some.is) in
-    await_seen tree c.args.body.now c.look.new.body line c.args.spot c.requires.port_of c.requires.up c.args.trigger c.in-Some.trigger c.in_ok-state.state c.seen_by_wait.result c.steps.result c.requires.can c.requires.before number
-    c.in_ok-state.ensures.did c.look.ensures.rest (c.seen_by_wait.ensures ∙ ap (λ (u : Under). seen_by_wait c.args.spot u.permitted c.in-Some.trigger c.in_ok-state.state) c.waits_under.ensures.under) c.steps.ensures c.stand.ensures
+    await_seen tree c.args.body.now c.look.new.body line c.args.spot c.requires.port_of c.requires.up c.args.trigger c.in-Some.trigger c.in_ok-state.state c.seen_by_wait-standing.result c.steps.result c.requires.can c.requires.before number
+    c.in_ok-state.ensures.did c.look.ensures.rest (c.seen_by_wait-standing.ensures ∙ ap (λ (u : Under). seen_by_wait c.args.spot u.permitted c.in-Some.trigger c.in_ok-state.state) c.waits_under-under.ensures.under) c.steps.ensures c.stand.ensures

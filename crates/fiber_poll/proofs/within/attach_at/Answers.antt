@@ -1,4 +1,3 @@
-use Rattle.std.proofs.Common.{ap, ◌∙◌}
 use Rattle.fiber_poll.proofs.Amid.{on_refusal}
 use Rattle.fiber_poll.proofs.Owning.{attach_may}
 use Rattle.fiber_poll.proofs.Placings.{on_attached}

@@ -1,16 +1,24 @@
 -- Walks through each line of the tables, by given replies: a table with a wrong line has another walk.
-use Rattle.std.proofs.Common.{◌≡◌, ℕ, Some, None, List, [], ◌∷◌, replicate, refl, true}
+use Rattle.std.proofs.Common.{◌≡◌, ℕ, Option, Some, None, List, [], ◌∷◌, replicate, refl, true, false}
 use Rattle.pic_base.specs.declared.action.Action.TheVariants.{Resume}
 use Rattle.pic_base.specs.declared.outcome.Outcome.TheVariants.{Returned, Cancelled}
 use Rattle.pic_machine.specs.declared.birth.Birth.{Birth}
+use Rattle.pic_machine.specs.declared.entry.ArmReply.{ArmReply}
+use Rattle.pic_machine.specs.declared.entry.ArmReply.TheVariants as arm
+use Rattle.pic_machine.specs.declared.entry.AttachReply.{AttachReply}
+use Rattle.pic_machine.specs.declared.entry.AttachReply.TheVariants as attach
 use Rattle.pic_machine.specs.declared.entry.Call.TheVariants as call
 use Rattle.pic_machine.specs.declared.entry.CompleteReply.TheVariants.{Won, Lost}
 use Rattle.pic_machine.specs.declared.entry.Reply.{Reply}
 use Rattle.pic_machine.specs.declared.entry.Reply.TheVariants as reply
 use Rattle.pic_machine.specs.declared.entry.SignalReply.TheVariants as signal
 use Rattle.pic_machine.specs.declared.entry.Reply.TheVariants.{Plain, Full, Made, Completed, Peeked}
+use Rattle.pic_machine.specs.declared.state.TrigState.{TrigState}
+use Rattle.pic_machine.specs.declared.state.TrigState.TheVariants.{Initial, Awaiting as AwaitedBy, Signalled}
+use Rattle.pic_machine.specs.declared.waits.Parts.{Parts}
 use Rattle.pic_machine.specs.Happened.{Happened}
 use Rattle.pic_machine.specs.History.{event, forked}
+use Rattle.pic_machine.specs.Waits.{arming, attaching, checking, over, woken}
 use Rattle.script_tree.specs.declared.program.CompRef.TheVariants.{Root, Named, Promise}
 use Rattle.script_tree.specs.declared.program.Decl.{Decl}
 use Rattle.script_tree.specs.declared.program.Kind.TheVariants as kind
@@ -22,11 +30,13 @@ use Rattle.script_tree.specs.declared.thing.Sort.TheVariants as sort
 use Rattle.script_tree.specs.declared.program.Test.TheVariants as test
 use Rattle.fiber_body.specs.declared.standing.Exit.{Exit}
 use Rattle.fiber_body.specs.declared.standing.Exit.TheVariants.{Next, Raised, Broke, Spent}
+use Rattle.fiber_body.specs.declared.under_way.UnderWay.TheVariants.{Places, Awaits, Awake, Attaches}
 use Rattle.fiber_body.specs.Context.{Context, Setting, comp_in, count_of, numbering}
 use Rattle.fiber_body.specs.Follows.{FollowsText, context_of}
-use Rattle.fiber_body.specs.Phases.{Phase, calls, ending, ends, gone, lives, repeating}
+use Rattle.fiber_body.specs.Phases.{Phase, attaches, attaches_to, awaits_trigger, calls, ending, ends, gone, lives, looking, looks, places, placing, repeating, suspending}
 use Rattle.fiber_body.specs.Segments.{Acts, IsSpent, Runs, and_out, at, between, cut, rests, stops, whole}
 use Rattle.fiber_body.specs.Tables.{asks, leads}
+use Rattle.fiber_body.specs.Triggers.{phase_of}
 use Rattle.fiber_body.proofs.Walking.{Walk, walker}
 
 -- ---- what the walks share
@@ -149,6 +159,159 @@ no_trigger = (ran _ _ _ (plain 1)).is
 
 nobody_completed : Runs (within []) (stmt.Return 0 (Named 9) (Num 1) ∷ []) (with [] 9) [] (cut (at (calls (stmt.Return 0 (Named 9) (Num 1))))) (with [] 8)
 nobody_completed = (ran _ _ _ (plain 1)).is
+
+-- ---- waiting for a trigger
+
+abbrev looked : ℕ → TrigState → Happened
+looked t state = event 3 (call.Look t) (reply.Seen state)
+
+abbrev placed : ℕ → Happened
+placed a = event 3 call.NewPlace (Made a)
+
+abbrev tied : ℕ → ℕ → ℕ → AttachReply → Happened
+tied a k t how = event 3 (call.Attach a k t) (reply.Attached how)
+
+abbrev armed : ℕ → ArmReply → Happened
+armed t how = event 3 (call.Arm t (Resume 3)) (reply.Armed how)
+
+-- a wait for the first trigger and one for the second, each with a statement behind it
+abbrev awaits_first : List Stmt
+awaits_first = stmt.Await 0 ∷ stmt.Say (Num 1) ∷ []
+
+abbrev awaits_second : List Stmt
+awaits_second = stmt.Await 4 ∷ stmt.Say (Num 1) ∷ []
+
+-- the trigger is attached to the current computation at the place that was made, then armed with the fiber's own resumption; then the computation is looked at, and it runs
+one_waits : Leaves [] awaits_second (with [] 2)
+    (looked 1 Initial ∷ placed 7 ∷ tied 7 2 1 attach.Attached ∷ armed 1 arm.Set ∷ event 3 (call.Peek 2) (Peeked None) ∷ said 1 ∷ []) Next (with [] 0)
+one_waits = (ran _ _ _ (reply.Seen Initial ∷ Made 7 ∷ reply.Attached attach.Attached ∷ reply.Armed arm.Set ∷ Peeked None ∷ Plain ∷ [])).is
+
+-- where the computation returned, it waits all the same, and goes on; and so it does where the trigger was signalled just then
+one_waits_behind_a_return : Leaves [] awaits_first (with [] 2)
+    (looked 0 Initial ∷ placed 7 ∷ tied 7 2 0 (attach.Completed (Returned 8)) ∷ armed 0 arm.Signalled ∷ event 3 (call.Peek 2) (Peeked (Some (Returned 8))) ∷ said 1 ∷ []) Next (with [] 0)
+one_waits_behind_a_return = (ran _ _ _ (reply.Seen Initial ∷ Made 7 ∷ reply.Attached (attach.Completed (Returned 8)) ∷ reply.Armed arm.Signalled ∷ Peeked (Some (Returned 8)) ∷ Plain ∷ [])).is
+
+-- where it was cancelled before, the code is raised and nothing is armed
+told_at_once : Leaves [] awaits_second (with [] 9) (looked 1 Initial ∷ placed 7 ∷ tied 7 2 1 (attach.Completed (Cancelled 6)) ∷ []) (Raised 6) (with [] 8)
+told_at_once = (ran _ _ _ (reply.Seen Initial ∷ Made 7 ∷ reply.Attached (attach.Completed (Cancelled 6)) ∷ [])).is
+
+-- where it was cancelled meanwhile, the code is raised once the fiber goes on
+told_awake : Leaves [] awaits_second (with [] 9)
+    (looked 1 Initial ∷ placed 7 ∷ tied 7 2 1 attach.Attached ∷ armed 1 arm.Set ∷ event 3 (call.Peek 2) (Peeked (Some (Cancelled 6))) ∷ []) (Raised 6) (with [] 8)
+told_awake = (ran _ _ _ (reply.Seen Initial ∷ Made 7 ∷ reply.Attached attach.Attached ∷ reply.Armed arm.Set ∷ Peeked (Some (Cancelled 6)) ∷ [])).is
+
+-- a signalled trigger isn't waited for, and nobody looks at the computation
+already_signalled : Leaves [] awaits_second (with [] 2) (looked 1 Signalled ∷ said 1 ∷ []) Next (with [] 0)
+already_signalled = (ran _ _ _ (reply.Seen Signalled ∷ Plain ∷ [])).is
+
+-- another's trigger raises 5: where that is seen at first, and where it is found as it is armed
+anothers : Leaves [] awaits_first (with [] 9) (looked 0 (AwaitedBy (Resume 2)) ∷ []) (Raised 5) (with [] 8)
+anothers = (ran _ _ _ (reply.Seen (AwaitedBy (Resume 2)) ∷ [])).is
+
+anothers_meanwhile : Leaves [] awaits_first (with [] 9) (looked 0 Initial ∷ placed 7 ∷ tied 7 2 0 attach.Attached ∷ armed 0 arm.Taken ∷ []) (Raised 5) (with [] 8)
+anothers_meanwhile = (ran _ _ _ (reply.Seen Initial ∷ Made 7 ∷ reply.Attached attach.Attached ∷ reply.Armed arm.Taken ∷ [])).is
+
+-- where there is no room for an attachment, the code 3 is raised
+no_place_to_wait : Leaves [] awaits_first (with [] 9) (looked 0 Initial ∷ event 3 call.NewPlace Full ∷ []) (Raised 3) (with [] 8)
+no_place_to_wait = (ran _ _ _ (reply.Seen Initial ∷ Full ∷ [])).is
+
+-- who isn't permitted to be told of a cancellation attaches nothing, and doesn't look at the computation
+abbrev forbidden : ℕ → Context
+forbidden steps = record (with [] steps) { permitted = false }
+
+waits_untold : Leaves [] (stmt.Await 4 ∷ stmt.Await 0 ∷ stmt.Say (Num 1) ∷ []) (forbidden 3)
+    (looked 1 Initial ∷ armed 1 arm.Set ∷ looked 0 Initial ∷ armed 0 arm.Signalled ∷ said 1 ∷ []) Next (forbidden 0)
+waits_untold = (ran _ _ _ (reply.Seen Initial ∷ reply.Armed arm.Set ∷ reply.Seen Initial ∷ reply.Armed arm.Signalled ∷ Plain ∷ [])).is
+
+-- a log may stop at each of the calls
+stops_asleep : Runs (within []) awaits_second (with [] 9) (looked 1 Initial ∷ placed 7 ∷ tied 7 2 1 attach.Attached ∷ armed 1 arm.Set ∷ [])
+    (cut (at (awaits_trigger 1 (suspending checking)))) (with [] 8)
+stops_asleep = (ran _ _ _ (reply.Seen Initial ∷ Made 7 ∷ reply.Attached attach.Attached ∷ reply.Armed arm.Set ∷ [])).is
+
+stops_at_the_arming : Runs (within []) awaits_second (with [] 9) (looked 1 Initial ∷ placed 7 ∷ tied 7 2 1 attach.Attached ∷ []) (cut (at (awaits_trigger 1 (suspending arming)))) (with [] 8)
+stops_at_the_arming = (ran _ _ _ (reply.Seen Initial ∷ Made 7 ∷ reply.Attached attach.Attached ∷ [])).is
+
+stops_at_the_place : Runs (within []) awaits_second (with [] 9) (looked 1 Initial ∷ []) (cut (at (awaits_trigger 1 placing))) (with [] 8)
+stops_at_the_place = (ran _ _ _ (reply.Seen Initial ∷ [])).is
+
+-- a trigger that isn't declared is not waited for, and other replies lead nowhere
+no_trigger_to_wait_for : Runs (within []) (stmt.Await 7 ∷ []) (with [] 9) [] (cut (at (calls (stmt.Await 7)))) (with [] 8)
+no_trigger_to_wait_for = (ran _ _ _ (plain 1)).is
+
+no_look : leads (with [] 9) (awaits_trigger 1 looking) Plain ≡ None
+no_look = refl
+
+no_arming : leads (with [] 9) (awaits_trigger 1 (suspending arming)) Plain ≡ None
+no_arming = refl
+
+-- ---- attaching a trigger
+
+abbrev attaches_second : List Stmt
+attaches_second = stmt.Attach 0 (Named 3) 4 ∷ stmt.Say (Reg 0) ∷ []
+
+-- the register gets 1 where the trigger was attached, whoever awaits it; to a declared computation, and to the root
+one_attaches : Leaves [] (stmt.Attach 0 (Named 3) 4 ∷ stmt.Attach 1 Root 0 ∷ []) (with (5 ∷ 5 ∷ []) 2)
+    (looked 1 Initial ∷ placed 7 ∷ tied 7 2 1 attach.Attached ∷ looked 0 (AwaitedBy (Resume 2)) ∷ placed 8 ∷ tied 8 0 0 attach.Attached ∷ []) Next (with (1 ∷ 1 ∷ []) 0)
+one_attaches = (ran _ _ _ (reply.Seen Initial ∷ Made 7 ∷ reply.Attached attach.Attached ∷ reply.Seen (AwaitedBy (Resume 2)) ∷ Made 8 ∷ reply.Attached attach.Attached ∷ [])).is
+
+-- 0 where the computation was completed, by a return or by a cancel
+attached_late : Leaves [] (stmt.Attach 0 (Named 3) 4 ∷ stmt.Attach 1 (Named 1) 4 ∷ []) (with (5 ∷ 5 ∷ []) 2)
+    (looked 1 Initial ∷ placed 7 ∷ tied 7 2 1 (attach.Completed (Returned 8)) ∷ looked 1 Initial ∷ placed 8 ∷ tied 8 1 1 (attach.Completed (Cancelled 6)) ∷ []) Next (with (0 ∷ 0 ∷ []) 0)
+attached_late = (ran _ _ _ (reply.Seen Initial ∷ Made 7 ∷ reply.Attached (attach.Completed (Returned 8)) ∷ reply.Seen Initial ∷ Made 8 ∷ reply.Attached (attach.Completed (Cancelled 6)) ∷ [])).is
+
+-- and 0 where the trigger is signalled, with no place made
+attaches_nothing : Leaves [] attaches_second (with (5 ∷ []) 2) (looked 1 Signalled ∷ said 0 ∷ []) Next (with (0 ∷ []) 0)
+attaches_nothing = (ran _ _ _ (reply.Seen Signalled ∷ Plain ∷ [])).is
+
+-- where there is no room for an attachment, the code 3 is raised, and the register stays
+no_place_to_attach : Leaves [] attaches_second (with (5 ∷ []) 9) (looked 1 Initial ∷ event 3 call.NewPlace Full ∷ []) (Raised 3) (with (5 ∷ []) 8)
+no_place_to_attach = (ran _ _ _ (reply.Seen Initial ∷ Full ∷ [])).is
+
+-- a log may stop at each of the calls
+stops_before_the_place : Runs (within []) attaches_second (with (5 ∷ []) 9) (looked 1 Initial ∷ []) (cut (at (attaches_to 0 2 1 places))) (with (5 ∷ []) 8)
+stops_before_the_place = (ran _ _ _ (reply.Seen Initial ∷ [])).is
+
+stops_before_attaching : Runs (within []) attaches_second (with (5 ∷ []) 9) (looked 1 Initial ∷ placed 7 ∷ []) (cut (at (attaches_to 0 2 1 (attaches 7)))) (with (5 ∷ []) 8)
+stops_before_attaching = (ran _ _ _ (reply.Seen Initial ∷ Made 7 ∷ [])).is
+
+-- a computation or a trigger that isn't there is not attached, and other replies lead nowhere
+nobody_to_attach_to : Runs (within []) (stmt.Attach 0 (Promise 0) 4 ∷ []) (with [] 9) [] (cut (at (calls (stmt.Attach 0 (Promise 0) 4)))) (with [] 8)
+nobody_to_attach_to = (ran _ _ _ (plain 1)).is
+
+no_trigger_to_attach : Runs (within []) (stmt.Attach 0 Root 7 ∷ []) (with [] 9) [] (cut (at (calls (stmt.Attach 0 Root 7)))) (with [] 8)
+no_trigger_to_attach = (ran _ _ _ (plain 1)).is
+
+no_look_to_attach : leads (with [] 9) (attaches_to 0 2 1 looks) Plain ≡ None
+no_look_to_attach = refl
+
+-- ---- bodies within a statement: how far a wait is by its parts, with a place and without one
+
+abbrev parts_at : Option ℕ → ℕ → Parts
+parts_at place stage = record { trigger = Some 1; place = place; second = None; at = stage }
+
+within_placing : phase_of (with [] 9) (Places 1) ≡ awaits_trigger 1 placing
+within_placing = refl
+
+within_attaching : phase_of (with [] 9) (Awaits (parts_at (Some 7) 2)) ≡ awaits_trigger 1 (suspending (attaching 7))
+within_attaching = refl
+
+within_arming : phase_of (with [] 9) (Awaits (parts_at (Some 7) 3)) ≡ awaits_trigger 1 (suspending arming)
+within_arming = refl
+
+within_arming_alone : phase_of (forbidden 9) (Awaits (parts_at None 2)) ≡ awaits_trigger 1 (suspending arming)
+within_arming_alone = refl
+
+within_awake : phase_of (with [] 9) (Awake 1) ≡ awaits_trigger 1 (suspending checking)
+within_awake = refl
+
+within_awake_untold : phase_of (forbidden 9) (Awake 1) ≡ awaits_trigger 1 (suspending (over woken))
+within_awake_untold = refl
+
+within_placing_to_attach : phase_of (with [] 9) (Attaches 0 2 1 None) ≡ attaches_to 0 2 1 places
+within_placing_to_attach = refl
+
+within_attaching_to : phase_of (with [] 9) (Attaches 0 2 1 (Some 7)) ≡ attaches_to 0 2 1 (attaches 7)
+within_attaching_to = refl
 
 -- ---- numbers
 

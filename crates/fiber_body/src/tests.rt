@@ -9,7 +9,7 @@ use std::sync::Arc;
 use std::test::Fail;
 
 const SCRIPT: &str =
-    "picos 1\ncomp x\ncomp y\nfiber n\nsay r0\nend\nmain\nset r1 7\nyield\nspawn n 5\nend\n";
+    "picos 1\ntrigger t\ncomp x\ncomp y\nfiber n\nsay r0\nend\nmain\nset r1 7\nyield\nspawn n 5\nend\n";
 
 #[test]
 fn a_body_begins_at_its_texts_first_statement(rt: HostRuntime) -> Result<(), Fail> {
@@ -163,7 +163,7 @@ fn statements_change_registers_and_storage(rt: HostRuntime) -> Result<(), Fail> 
 }
 
 #[test]
-fn a_start_has_the_root_and_main(rt: HostRuntime) -> Result<(), Fail> {
+fn a_start_has_what_is_declared_and_the_root(rt: HostRuntime) -> Result<(), Fail> {
     let program = parse(rt.alloc(), SCRIPT.as_bytes())?;
     let limits = Limits {
         triggers: 4,
@@ -172,6 +172,7 @@ fn a_start_has_the_root_and_main(rt: HostRuntime) -> Result<(), Fail> {
         comps: 9,
     };
     let start = start_of(&program, limits);
+    assert_eq!(rt; start.triggers, 1);
     assert_eq!(rt; start.comps, 3);
     assert_eq!(rt; start.text, 1);
     assert_eq!(rt; start.limits, limits);
@@ -179,18 +180,23 @@ fn a_start_has_the_root_and_main(rt: HostRuntime) -> Result<(), Fail> {
 }
 
 #[test]
-fn computations_are_numbered_in_their_order(rt: HostRuntime) -> Result<(), Fail> {
-    let text = b"picos 1\ntrigger t\ncomp x\nmutex m\nsem s 3\ncomp y\ncomp z\nmain\nend\n";
+fn each_sort_is_numbered_in_its_order(rt: HostRuntime) -> Result<(), Fail> {
+    let text =
+        b"picos 1\ntrigger t\ncomp x\nmutex m\nsem s 3\ncomp y\ncomp z\ntrigger u\nmain\nend\n";
     let program = parse(rt.alloc(), text)?;
     let numbers = Numbers::of(rt.alloc(), &program)?;
     assert_eq!(rt; numbers.comp(CompRef::Root), Some(0));
     assert_eq!(rt; numbers.comp(CompRef::Named(1)), Some(1));
     assert_eq!(rt; numbers.comp(CompRef::Named(4)), Some(2));
     assert_eq!(rt; numbers.comp(CompRef::Named(5)), Some(3));
-    assert_eq!(rt; numbers.comp(CompRef::Named(6)), None);
+    assert_eq!(rt; numbers.comp(CompRef::Named(7)), None);
     assert_eq!(rt; numbers.comp(CompRef::Promise(0)), None);
+    assert_eq!(rt; numbers.trigger(0), Some(0));
+    assert_eq!(rt; numbers.trigger(6), Some(1));
+    assert_eq!(rt; numbers.trigger(7), None);
     let none = Numbers::of(rt.alloc(), &parse(rt.alloc(), b"picos 1\nmain\nend\n")?)?;
     assert_eq!(rt; none.comp(CompRef::Root), Some(0));
     assert_eq!(rt; none.comp(CompRef::Named(0)), None);
+    assert_eq!(rt; none.trigger(0), None);
     Ok(())
 }

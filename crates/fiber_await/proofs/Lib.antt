@@ -1,5 +1,6 @@
 pub mod Answering
 pub mod Reserving
+pub mod Placing
 pub mod Calling
 pub mod Running
 pub mod Readying

@@ -1,13 +1,13 @@
 //! One call of a port each, with room made in the body for its entry.
-ghost use Rattle.std.specs.Prelude.{◌≡◌, ◌∷◌, [], IfErr, IfOk, OnOk};
-ghost use Rattle.pic_machine.specs.History.{MayMake, event};
+ghost use Rattle.std.specs.Prelude.{◌≡◌, ◌∷◌, ℕ, [], IfErr, IfOk, OnOk};
+ghost use Rattle.pic_machine.specs.History.{MayMake, NumbersFit, event};
 ghost use Rattle.pic_machine.specs.Lending.{Answered, Calm, Refuses};
 ghost use Rattle.pic_machine.specs.Sight.{Holds, fiber_of};
 ghost use Rattle.fiber_await.specs.Doing.{Did, IsFree};
 ghost use Rattle.fiber_await.specs.Refusing.{Refused, RefusedMaking};
 
 use pic_base::{CompNo, Outcome, PlaceNo, TriggerNo};
-use pic_machine::{AttachReply, Call, Carried, Port, PortFault, Reply, SignalReply};
+use pic_machine::{AttachReply, Call, Carried, Port, PortFault, Reply, SignalReply, TrigState};
 
 /// Makes a trigger.
 pub(crate) fn new_trigger<P: Port>(port: &mut P, body: &mut P::Body) -> Result<TriggerNo, PortFault>
@@ -26,12 +26,14 @@ pub(crate) fn new_trigger<P: Port>(port: &mut P, body: &mut P::Body) -> Result<T
     port.new_trigger(body)
 }
 
-/// Makes a place.
-pub(crate) fn new_place<P: Port>(port: &mut P, body: &mut P::Body) -> Result<PlaceNo, PortFault>
+/// Makes a place, at which the fiber may attach any trigger.
+pub fn new_place<P: Port>(port: &mut P, body: &mut P::Body) -> Result<PlaceNo, PortFault>
     requires { IsFree (P.sight port.old) (P.Body.seen body.old) }
     ensures did { IfOk result (λ place. Did (P.sight port.old) (P.sight port.new)
         (P.Body.seen body.old) (P.Body.seen body.new)
         (event (fiber_of (P.Body.seen body.old)) Call.NewPlace (Reply.Made place) ∷ [])) }
+    ensures free { IfOk result (λ place. (comp trigger : ℕ) → NumbersFit (P.sight port.new).origin (P.sight port.new).front
+        (fiber_of (P.Body.seen body.old)) (Call.Attach place comp trigger)) }
     ensures calm { OnOk result (Calm (P.sight port.old) (P.sight port.new)) }
     ensures refused { IfErr result (λ fault. RefusedMaking fault (P.sight port.old) (P.sight port.new)
         (P.Body.seen body.old) (P.Body.seen body.new) Call.NewPlace) }
@@ -43,8 +45,31 @@ pub(crate) fn new_place<P: Port>(port: &mut P, body: &mut P::Body) -> Result<Pla
     port.new_place(body)
 }
 
+/// Looks at a trigger.
+pub fn look<P: Port>(
+    port: &mut P,
+    body: &mut P::Body,
+    trigger: TriggerNo,
+) -> Result<TrigState, PortFault>
+    requires free { IsFree (P.sight port.old) (P.Body.seen body.old) }
+    requires may { MayMake (P.sight port.old).origin (P.sight port.old).front
+        (fiber_of (P.Body.seen body.old)) (Call.Look trigger) }
+    ensures did { IfOk result (λ state. Did (P.sight port.old) (P.sight port.new)
+        (P.Body.seen body.old) (P.Body.seen body.new)
+        (event (fiber_of (P.Body.seen body.old)) (Call.Look trigger) (Reply.Seen state) ∷ [])) }
+    ensures calm { OnOk result (Calm (P.sight port.old) (P.sight port.new)) }
+    ensures refused { IfErr result (λ fault. Refused fault (P.sight port.old) (P.sight port.new)
+        (P.Body.seen body.old) (P.Body.seen body.new)) }
+    ensures rest { P.Body.same_rest body.old body.new }
+{
+    if body.reserve().is_err() {
+        return Err(PortFault::Memory);
+    }
+    port.look(body, trigger)
+}
+
 /// Attaches a trigger to a computation.
-pub(crate) fn attach<P: Port>(
+pub fn attach<P: Port>(
     port: &mut P,
     body: &mut P::Body,
     place: PlaceNo,

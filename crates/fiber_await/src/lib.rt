@@ -4,6 +4,8 @@
 //! after another, and can be left in the middle, where another port is in the way (`Again`) or memory is
 //! wanted (`Memory`), and gone on with from there.
 //!
+//! - `look`, `new_place` and `attach` are one call of the port each, with room made for its entry: `Did`
+//!   (`specs/Doing`) says which entry was made, and `Refused` (`specs/Refusing`) that none was.
 //! - `make_ready` makes what a wait needs, `suspend` is its first half, up to the arming by which a port's
 //!   `park` suspends the fiber, and `unsuspend` its second, once the fiber goes on. The tables `making` and
 //!   `waiting` of `pic_machine` (`specs/Waits`) say which call is asked at each phase and where its reply
@@ -26,6 +28,7 @@ mod stage;
 mod suspending;
 
 pub use ahead::Ahead;
+pub use calls::{attach, look, new_place};
 pub use owed::discharge;
 pub use pic_machine::{Parts, Standing};
 pub use ready::make_ready;

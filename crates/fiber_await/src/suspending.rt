@@ -1,10 +1,11 @@
 //! The two halves of a wait, around the arming by which a port suspends the fiber.
-ghost use Rattle.std.specs.Prelude.{◌≡◌, ◌≢◌, ◌⊎◌, ℕ, IfErr, IfSome, None, Ok, OnOk};
+ghost use Rattle.std.specs.Prelude.{◌≡◌, ◌≢◌, ◌⊎◌, ℕ, IfErr, IfSome, None, Ok, OnErr, OnOk};
 ghost use Rattle.pic_machine.specs.History.{MayMake};
-ghost use Rattle.pic_machine.specs.Lending.{Calm, Faulted};
+ghost use Rattle.pic_machine.specs.Lending.{Calm};
 ghost use Rattle.pic_machine.specs.Sight.{fiber_of};
 ghost use Rattle.pic_machine.specs.Waits.{arming, awake, waiting, waiting_at};
 ghost use Rattle.fiber_await.specs.Doing.{IsFree, Ran};
+ghost use Rattle.fiber_await.specs.Refusing.{Refused};
 ghost use Rattle.fiber_await.specs.Phases.{attach_tells, peek_tells, suspended_at, trigger_of, unsuspended_at};
 
 use crate::ahead::Ahead;
@@ -33,7 +34,10 @@ pub fn suspend<P: Port>(
     ensures go { result ≡ Ok Ahead.Go → waiting_at s.now parts.new.at parts.new ≡ arming }
     ensures parts { parts.new ≡ record parts.old { at = parts.new.at } }
     ensures calm { OnOk result (Calm (P.sight port.old) (P.sight port.new)) }
-    ensures gave_up { IfErr result (λ fault. Faulted fault (P.sight port.old) (P.sight port.new)) }
+    ensures at { (parts.new.at ≡ 2) ⊎ (parts.new.at ≡ 3) }
+    ensures kept { OnErr result (parts.new ≡ parts.old) }
+    ensures refused { IfErr result (λ fault. Refused fault (P.sight port.old) (P.sight port.new)
+        (P.Body.seen body.old) (P.Body.seen body.new)) }
     ensures rest { P.Body.same_rest body.old body.new }
 {
     if parts.at == ATTACHED {
@@ -68,7 +72,8 @@ pub fn unsuspend<P: Port>(
         (P.sight port.old) (P.sight port.new) (P.Body.seen body.old) (P.Body.seen body.new)
         (awake s.now) (unsuspended_at s.now result) }
     ensures calm { OnOk result (Calm (P.sight port.old) (P.sight port.new)) }
-    ensures gave_up { IfErr result (λ fault. Faulted fault (P.sight port.old) (P.sight port.new)) }
+    ensures refused { IfErr result (λ fault. Refused fault (P.sight port.old) (P.sight port.new)
+        (P.Body.seen body.old) (P.Body.seen body.new)) }
     ensures rest { P.Body.same_rest body.old body.new }
 {
     if !s.permitted {

@@ -2,12 +2,14 @@
 use Rattle.std.proofs.Common.{◌≡◌, ℕ, Option, [], refl, sym, ap, subst, ◌∙◌}
 use Rattle.pic_machine.specs.declared.birth.Birth.{Birth}
 use Rattle.script_tree.specs.Tree.{Tree}
+use Rattle.fiber_body.specs.declared.standing.Standing.{Standing}
 use Rattle.fiber_body.specs.declared.standing.Standing.TheVariants.{At, Ended}
 use Rattle.fiber_body.specs.Fits.{LeadsTo}
 use Rattle.fiber_body.specs.Follows.{context_of}
 use Rattle.fiber_body.specs.Framing.{leads_new}
 use Rattle.fiber_body.specs.Laws.{fits_led}
 use Rattle.fiber_body.specs.New.{IsNew}
+use Rattle.fiber_body.specs.Owns.{Owns}
 use Rattle.fiber_body.specs.Shown.{Shown}
 use Rattle.fiber_body.specs.Texts.{block_in, script_in}
 
@@ -41,5 +43,5 @@ is_new body program birth number block program_is birth_is number_is context sta
       frames = frames;
       noted = noted;
       owes = owes;
-      fits = fits_led body [] noted (λ f mine. leads f) (λ f mine ended. let both : At block 0 ≡ Ended = sym standing ∙ ended in absurd cc);
+      fits = fits_led body [] noted (λ f mine. leads f) (λ f mine. subst (λ (there : Standing). Owns (script_in body.program) f [] there) (sym at) tt) (λ f mine ended. let both : At block 0 ≡ Ended = sym standing ∙ ended in absurd cc);
     }

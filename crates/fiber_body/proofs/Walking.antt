@@ -9,8 +9,8 @@ use Rattle.script_tree.specs.declared.program.Stmt.TheVariants as stmt
 use Rattle.fiber_body.specs.declared.standing.Exit.TheVariants.{Next, Spent}
 use Rattle.fiber_body.specs.Context.{Context, Setting, block_at}
 use Rattle.fiber_body.specs.Phases.{Phase}
-use Rattle.fiber_body.specs.Segments.{Acts, CanBegin, Extent, IsSpent, Runs, and_more, and_out, at, begun, between, cut, ends_so, finished, goes, happens, leaves_it, makes, no_step_left, rests, stops, stops_inside, whole}
-use Rattle.fiber_body.specs.Statements.{begins, born}
+use Rattle.fiber_body.specs.Segments.{Acts, CanBegin, Extent, IsSpent, Runs, and_more, and_out, at, beginning, begun, between, cut, ends_so, finished, goes, happens, leaves_it, makes, no_step_left, rests, stops, stops_inside, whole}
+use Rattle.fiber_body.specs.Statements.{born}
 use Rattle.fiber_body.specs.Tables.{Settled, Work, asks, closing, encloses, ends_by, goes_into, leads, settles}
 
 -- what a walk comes by, how far it gets and the context there, the replies that are left over, and that all this is a segment
@@ -63,14 +63,14 @@ module _ (s : Setting) where
   -- ---- what is left of a statement: it settles, or its call gets the next reply
 
   module _ (act : Act) (run : Run) where
-    abbrev replied_to : (p : Phase) (c : Context) (r : Reply) (rs : List Reply) (call : Option Call) (next : Option Phase) → asks s.script c p ≡ call → leads c p r ≡ next → Walk (Acts s p c)
+    abbrev replied_to : (p : Phase) (c : Context) (r : Reply) (rs : List Reply) (call : Option Call) (next : Option Phase) → asks s c p ≡ call → leads c p r ≡ next → Walk (Acts s p c)
     replied_to p c r rs (Some call) (Some q) asked led = let w = act q c rs in walk (happens s.fiber call r (born c call) ∷ w.log) w.extent w.context w.left (makes call r asked led w.is)
     replied_to p c r rs (Some call) None asked led = walk [] (cut (at p)) c (r ∷ rs) stops
     replied_to p c r rs None next asked led = walk [] (cut (at p)) c (r ∷ rs) stops
 
     abbrev asking : (p : Phase) (c : Context) → List Reply → Walk (Acts s p c)
     asking p c [] = walk [] (cut (at p)) c [] stops
-    asking p c (r ∷ rs) = replied_to p c r rs (asks s.script c p) (leads c p r) refl refl
+    asking p c (r ∷ rs) = replied_to p c r rs (asks s c p) (leads c p r) refl refl
 
     abbrev left_so : (p : Phase) (c : Context) (k : Work) (b : ℕ) (d : Context) → settles c p ≡ Some (encloses k b d)
         → (xs : List Happened) (y : Extent) (e : Context) → List Reply → Runs s (block_at s.script.blocks b) d xs y e → Walk (Acts s p c)
@@ -90,12 +90,12 @@ module _ (s : Setting) where
 
   module _ (act : Act) where
     abbrev going_on : (one : Stmt) (ss : List Stmt) (c : Context) → ((d : Context) → List Reply → Walk (Runs s ss d)) → CanBegin one c
-        → (xs : List Happened) (y : Extent) (d : Context) → List Reply → Acts s (begins (begun one c) one) (begun one c) xs y d → Walk (Runs s (one ∷ ss) c)
+        → (xs : List Happened) (y : Extent) (d : Context) → List Reply → Acts s (beginning s c one) (begun one c) xs y d → Walk (Runs s (one ∷ ss) c)
     going_on one ss c more can xs (whole Next) d rs acts = let w = more d rs in walk (xs ++ w.log) w.extent w.context w.left (and_more can acts w.is)
     going_on one ss c more can xs y d rs acts = walk xs y d rs (and_out can acts (apart y refl))
 
     abbrev starting : (one : Stmt) (ss : List Stmt) (c : Context) → ((d : Context) → List Reply → Walk (Runs s ss d)) → List Reply → (can : Bool) → can_begin one c ≡ can → Walk (Runs s (one ∷ ss) c)
-    starting one ss c more rs true can = let w = act (begins (begun one c) one) (begun one c) rs in going_on one ss c more (begins_by one c can) w.log w.extent w.context w.left w.is
+    starting one ss c more rs true can = let w = act (beginning s c one) (begun one c) rs in going_on one ss c more (begins_by one c can) w.log w.extent w.context w.left w.is
     starting one ss c more rs false can = walk [] (whole Spent) c rs (no_step_left (spent_by one c can))
 
     abbrev running : Run

@@ -1,5 +1,5 @@
 -- Walks through each line of the tables, by given replies: a table with a wrong line has another walk.
-use Rattle.std.proofs.Common.{◌≡◌, ℕ, Some, None, List, [], ◌∷◌, replicate, refl}
+use Rattle.std.proofs.Common.{◌≡◌, ℕ, Some, None, List, [], ◌∷◌, replicate, refl, true}
 use Rattle.pic_base.specs.declared.action.Action.TheVariants.{Resume}
 use Rattle.pic_base.specs.declared.outcome.Outcome.TheVariants.{Returned, Cancelled}
 use Rattle.pic_machine.specs.declared.birth.Birth.{Birth}
@@ -40,7 +40,7 @@ within blocks = record { fiber = 3; script = record { decls = decls; texts = rec
 
 -- so many registers and cells as the walk speaks of; the current computation is 2
 abbrev holding : List ℕ → List ℕ → ℕ → Context
-holding registers cells steps = record { registers = registers; cells = cells; steps = steps; current = 2 }
+holding registers cells steps = record { registers = registers; cells = cells; steps = steps; current = 2; permitted = true }
 
 abbrev with : List ℕ → ℕ → Context
 with registers steps = holding registers [] steps
@@ -302,7 +302,7 @@ stops_inside_blocks = (acted _ _ _ []).is
 stops_at_the_end : Acts (within ([] ∷ [])) (lives 0) (with (5 ∷ []) 9) [] (cut (at (ending (Returned 5) ends))) (with (5 ∷ []) 9)
 stops_at_the_end = (acted _ _ _ []).is
 
-nothing_asked_behind : asks (within []).script (with [] 9) (ending (Returned 5) gone) ≡ None
+nothing_asked_behind : asks (within []) (with [] 9) (ending (Returned 5) gone) ≡ None
 nothing_asked_behind = refl
 
 nothing_leads_on : leads (with [] 9) (ending (Returned 5) gone) Plain ≡ None

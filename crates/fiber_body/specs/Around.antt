@@ -1,5 +1,5 @@
 -- Where a fiber stands in its text, and what its log may still have from there on.
-use Rattle.std.specs.Prelude.{◌≡◌, ℕ, List, [], ◌∷◌, ◌++◌, drop, map}
+use Rattle.std.specs.Prelude.{◌≡◌, ℕ, ◌+◌, List, [], ◌∷◌, ◌++◌, drop, map}
 use Rattle.pic_machine.specs.Happened.{Happened}
 use Rattle.fiber_body.specs.declared.standing.Exit.{Exit}
 use Rattle.fiber_body.specs.declared.standing.Exit.TheVariants.{Next}
@@ -11,6 +11,7 @@ use Rattle.fiber_body.specs.Context.{Context, Setting, block_at}
 use Rattle.fiber_body.specs.Phases.{Phase, ending, ends}
 use Rattle.fiber_body.specs.Segments.{Acts, Extent, Runs, cut, whole}
 use Rattle.fiber_body.specs.Tables.{Work, catches, closing, ends_text, repeats}
+use Rattle.fiber_body.specs.Triggers.{phase_of}
 
 -- at a statement of a block, within one, or where the innermost block has ended so
 pub data Place : Type 0 where
@@ -24,19 +25,22 @@ pub data Outer : Type 0 where
   work : Work → Outer
 
 -- the same of a body: a fiber that has ended is where its last phase was left
-abbrev pub place_of : Standing → Place
-place_of (standing.At block place) = at_stmt block place
-place_of (standing.Out exit) = out exit
-place_of (standing.Ending outcome) = within (ending outcome ends)
-place_of standing.Ended = out Next
+abbrev pub place_of : Context → Standing → Place
+place_of c (standing.At block place) = at_stmt block place
+place_of c (standing.Within block place way) = within (phase_of c way)
+place_of c (standing.Out exit) = out exit
+place_of c (standing.Ending outcome) = within (ending outcome ends)
+place_of c standing.Ended = out Next
 
 abbrev pub outer_of : Frame → Outer
 outer_of (frame.Rest block place) = rest block place
 outer_of (frame.Repeats block) = work (repeats block)
 outer_of (frame.Catches register handler) = work (catches register handler)
 
--- the end of the text is the outermost thing to do, until the text is left
+-- the end of the text is the outermost thing to do, until the text is left; around a statement that is under way is the
+-- rest of its block
 abbrev pub around_of : Standing → List Frame → List Outer
+around_of (standing.Within block place way) frames = rest block (place + 1) ∷ map outer_of frames ++ work ends_text ∷ []
 around_of (standing.Ending outcome) frames = []
 around_of standing.Ended frames = []
 around_of _ frames = map outer_of frames ++ work ends_text ∷ []

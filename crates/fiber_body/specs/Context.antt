@@ -57,12 +57,14 @@ comp_in numbers (Promise register) = None
 
 -- ---- what changes
 
--- the registers, the cells of the fiber's storage, the steps that it has left, and its current computation
+-- the registers, the cells of the fiber's storage, the steps that it has left, its current computation, and whether
+-- the fiber is permitted to be told of the cancellation of that
 pub record Context : Type 0 where
   pub registers : List ℕ
   pub cells : List ℕ
   pub steps : ℕ
   pub current : ℕ
+  pub permitted : Bool
 
 -- the value of an operand, where the registers stand so
 abbrev pub value_in : List ℕ → Operand → ℕ
@@ -94,7 +96,8 @@ holds test.Ge a b = nat_le b a
 abbrev pub most : ℕ
 most = 4294967295
 
--- ---- codes that are raised: no step is left, a result is no number of a script, a limit of the machine is met
+-- ---- codes that are raised: no step is left, a result is no number of a script, a limit of the machine is met, the
+-- trigger is another's
 
 abbrev pub no_step : ℕ
 no_step = 1
@@ -104,3 +107,6 @@ overflow = 2
 
 abbrev pub limit_met : ℕ
 limit_met = 3
+
+abbrev pub taken_already : ℕ
+taken_already = 5

@@ -10,15 +10,15 @@ use Rattle.fiber_body.specs.declared.standing.Exit.TheVariants.{Next, Spent}
 use Rattle.fiber_body.specs.Around.{Ahead, Around, From, Leads, Outer, Place, Turns, at_stmt, out, rest, within, work}
 use Rattle.fiber_body.specs.Context.{Context, Setting, block_at}
 use Rattle.fiber_body.specs.Phases.{Phase, lives}
-use Rattle.fiber_body.specs.Segments.{Acts, CanBegin, Extent, IsSpent, Runs, Stop, and_more, and_out, at, begun, between, cut, ends_so, finished, goes, happens, leaves_it, makes, no_step_left, rests, stops, stops_inside, whole}
-use Rattle.fiber_body.specs.Statements.{begins, born}
+use Rattle.fiber_body.specs.Segments.{Acts, CanBegin, Extent, IsSpent, Runs, Stop, and_more, and_out, at, beginning, begun, between, cut, ends_so, finished, goes, happens, leaves_it, makes, no_step_left, rests, stops, stops_inside, whole}
+use Rattle.fiber_body.specs.Statements.{born}
 use Rattle.fiber_body.specs.Tables.{Work, asks, closing, encloses, ends_by, ends_text, goes_into, leads, settles}
 
 module _ (s : Setting) where
   -- ---- a phase
 
   -- an entry more
-  makes_ahead : {p q : Phase} {c : Context} (fs : List Outer) (call : Call) (reply : Reply) → asks s.script c p ≡ Some call → leads c p reply ≡ Some q
+  makes_ahead : {p q : Phase} {c : Context} (fs : List Outer) (call : Call) (reply : Reply) → asks s c p ≡ Some call → leads c p reply ≡ Some q
       → (tail : List Happened) (y : Extent) (d : Context) → Ahead s (within q) fs c tail y d → Ahead s (within p) fs c (happens s.fiber call reply (born c call) ∷ tail) y d
   makes_ahead {c = c} fs call reply asked led tail y d ahead =
       let h = happens s.fiber call reply (born c call) in
@@ -109,7 +109,7 @@ module _ (s : Setting) where
   -- ---- a statement of a block
 
   begins_by : (one : Stmt) (b p : ℕ) (fs : List Outer) (c : Context) (y : Extent) (d : Context) (front back : List Happened) (z : Extent) (g : Context)
-      → drop p (block_at s.script.blocks b) ≡ one ∷ drop (p + 1) (block_at s.script.blocks b) → CanBegin one c → Acts s (begins (begun one c) one) (begun one c) front z g
+      → drop p (block_at s.script.blocks b) ≡ one ∷ drop (p + 1) (block_at s.script.blocks b) → CanBegin one c → Acts s (beginning s c one) (begun one c) front z g
       → Around s (rest b (p + 1) ∷ fs) z g back y d → Ahead s (at_stmt b p) fs c (front ++ back) y d
   begins_by one b p fs c y d front back (whole Next) g is can acts around = record {
     front = front ++ around.front;
@@ -132,7 +132,7 @@ module _ (s : Setting) where
 
   -- it begins
   pub begins_ahead : (one : Stmt) (b p : ℕ) (fs : List Outer) (c : Context) → drop p (block_at s.script.blocks b) ≡ one ∷ drop (p + 1) (block_at s.script.blocks b) → CanBegin one c
-      → Turns s (at_stmt b p) fs c (within (begins (begun one c) one)) (rest b (p + 1) ∷ fs) (begun one c)
+      → Turns s (at_stmt b p) fs c (within (beginning s c one)) (rest b (p + 1) ∷ fs) (begun one c)
   begins_ahead one b p fs c is can tail y d ahead = subst (λ (zs : List Happened). Ahead s (at_stmt b p) fs c zs y d) (sym ahead.is)
       (begins_by one b p fs c y d ahead.front ahead.back ahead.extent ahead.context is can ahead.first ahead.second)
 
@@ -179,7 +179,7 @@ module _ (s : Setting) where
 
   module _ (begin : Phase) (start : Context) where
     pub leads_entry : (log : List Happened) (fs : List Outer) {p q : Phase} {c : Context} (call : Call) (reply : Reply)
-        → asks s.script c p ≡ Some call → leads c p reply ≡ Some q → Leads s begin start log (within p) fs c
+        → asks s c p ≡ Some call → leads c p reply ≡ Some q → Leads s begin start log (within p) fs c
         → Leads s begin start (log ++ happens s.fiber call reply (born c call) ∷ []) (within q) fs c
     leads_entry log fs {c = c} call reply asked led before tail y d ahead =
         let h = happens s.fiber call reply (born c call) in

@@ -16,6 +16,7 @@ use Rattle.fiber_body.specs.Segments.{Acts}
 use Rattle.fiber_body.specs.Shown.{IsSameRest, Shown, carry_of}
 use Rattle.fiber_body.specs.Texts.{block_in, script_in}
 use Rattle.fiber_body.specs.Fits.{Fits, IsOver, LeadsTo, MayBeOf, setting_of}
+use Rattle.fiber_body.specs.Owns.{Owns}
 
 -- ---- a body fits where the log leads to it
 
@@ -23,7 +24,7 @@ use Rattle.fiber_body.specs.Fits.{Fits, IsOver, LeadsTo, MayBeOf, setting_of}
 pub led_follows : (body : Shown) (log : List Happened) (script : Tree) (f : ℕ) → body.program ≡ Some script → LeadsTo body f (own log) → FollowsText script f body.birth log
 led_follows body log script f program leads =
     let start = context_of body.birth in
-    let there = leads_segment (setting_of body f) (lives (block_in body.program body.birth.text)) start (own log) (place_of body.standing) (around_of body.standing body.frames) body.context leads in
+    let there = leads_segment (setting_of body f) (lives (block_in body.program body.birth.text)) start (own log) (place_of body.context body.standing) (around_of body.standing body.frames) body.context leads in
     record {
       extent = there.extent;
       context = there.context;
@@ -31,11 +32,12 @@ led_follows body log script f program leads =
     }
 
 pub fits_led : (body : Shown) (log : List Happened) → body.noted ≡ visible log → ((f : ℕ) → MayBeOf body.number f → LeadsTo body f (own log))
-    → ((f : ℕ) → MayBeOf body.number f → body.standing ≡ Ended → IsOver f log) → Fits body log
-fits_led body log noted leads over = record {
+    → ((f : ℕ) → MayBeOf body.number f → Owns (script_in body.program) f (own log) body.standing) → ((f : ℕ) → MayBeOf body.number f → body.standing ≡ Ended → IsOver f log) → Fits body log
+fits_led body log noted leads owns over = record {
   noted = noted;
   follows = λ script f program mine. led_follows body log script f program (leads f mine);
   stands = leads;
+  owns = owns;
   over = over;
 }
 
@@ -57,6 +59,7 @@ fits_moved body number noted room owes log fits same may = record {
   noted = same ∙ fits.noted;
   follows = λ script f program mine. fits.follows script f program (may f mine);
   stands = λ f mine. fits.stands f (may f mine);
+  owns = λ f mine. fits.owns f (may f mine);
   over = λ f mine ended. fits.over f (may f mine) ended;
 }
 
@@ -85,5 +88,6 @@ clock_fits body log number noted = record {
   noted = noted;
   follows = λ script f program mine. no_fiber (FollowsText script f body.birth log) body.number f number mine;
   stands = λ f mine. no_fiber (LeadsTo body f (own log)) body.number f number mine;
+  owns = λ f mine. no_fiber (Owns (script_in body.program) f (own log) body.standing) body.number f number mine;
   over = λ f mine ended. no_fiber (IsOver f log) body.number f number mine;
 }

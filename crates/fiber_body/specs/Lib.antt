@@ -3,11 +3,13 @@ pub mod Context
 pub mod Counted
 pub mod Phases
 pub mod Statements
+pub mod Triggers
 pub mod Tables
 pub mod Segments
 pub mod Follows
 pub mod Shown
 pub mod Around
+pub mod Owns
 pub mod Fits
 pub mod Places
 pub mod Numbering

@@ -9,7 +9,7 @@ use Rattle.script_tree.specs.declared.program.Stmt.{Stmt}
 use Rattle.script_tree.specs.declared.program.Stmt.TheVariants as stmt
 use Rattle.fiber_body.specs.declared.standing.Exit.{Exit}
 use Rattle.fiber_body.specs.declared.standing.Exit.TheVariants.{Next, Spent}
-use Rattle.fiber_body.specs.Context.{Context, Setting, block_at, stepped}
+use Rattle.fiber_body.specs.Context.{Context, Setting, block_at, numbering, stepped}
 use Rattle.fiber_body.specs.Phases.{Phase}
 use Rattle.fiber_body.specs.Statements.{begins, born}
 use Rattle.fiber_body.specs.Tables.{Work, asks, closing, encloses, ends_by, goes_into, leads, settles}
@@ -56,6 +56,10 @@ abbrev pub IsSpent : Stmt → Context → Type 0
 IsSpent (stmt.Loop block) c = ⊥
 IsSpent one c = c.steps ≡ 0
 
+-- where the statement begins, once its step is made
+abbrev pub beginning : Setting → Context → Stmt → Phase
+beginning s c one = begins (numbering s.script.decls) (begun one c) one
+
 -- ---- segments
 
 mutual
@@ -64,7 +68,7 @@ mutual
   pub data Acts (s : Setting) : Phase → Context → List Happened → Extent → Context → Type 0 where
     stops : {p : Phase} {c : Context} → Acts s p c [] (cut (at p)) c
     makes : {p q : Phase} {c d : Context} {xs : List Happened} {y : Extent} (call : Call) (reply : Reply)
-        → asks s.script c p ≡ Some call → leads c p reply ≡ Some q → Acts s q c xs y d
+        → asks s c p ≡ Some call → leads c p reply ≡ Some q → Acts s q c xs y d
         → Acts s p c (happens s.fiber call reply (born c call) ∷ xs) y d
     ends_so : {p : Phase} {c d : Context} {x : Exit} → settles c p ≡ Some (ends_by x d) → Acts s p c [] (whole x) d
     goes : {p : Phase} {c d e : Context} {b : ℕ} {xs : List Happened} {y : Extent}
@@ -83,7 +87,7 @@ mutual
     rests : {ss : List Stmt} {c : Context} → Runs s ss c [] (cut between) c
     no_step_left : {one : Stmt} {ss : List Stmt} {c : Context} → IsSpent one c → Runs s (one ∷ ss) c [] (whole Spent) c
     and_more : {one : Stmt} {ss : List Stmt} {c d e : Context} {xs ys : List Happened} {y : Extent} → CanBegin one c
-        → Acts s (begins (begun one c) one) (begun one c) xs (whole Next) d → Runs s ss d ys y e
+        → Acts s (beginning s c one) (begun one c) xs (whole Next) d → Runs s ss d ys y e
         → Runs s (one ∷ ss) c (xs ++ ys) y e
     and_out : {one : Stmt} {ss : List Stmt} {c d : Context} {xs : List Happened} {y : Extent} → CanBegin one c
-        → Acts s (begins (begun one c) one) (begun one c) xs y d → y ≢ whole Next → Runs s (one ∷ ss) c xs y d
+        → Acts s (beginning s c one) (begun one c) xs y d → y ≢ whole Next → Runs s (one ∷ ss) c xs y d

@@ -1,5 +1,5 @@
 -- How statements begin: those that change registers and storage alone, or only leave their block, come to
--- their end at once; others have one call, or a block. Statements that no run serves yet have no row: they
+-- their end at once; others have one call, or several, or a block. Statements that no run serves yet have no row: they
 -- begin, and ask for nothing.
 use Rattle.std.specs.Prelude.{ℕ, ◌+◌, ◌-◌, ◌*◌, nat_le, cond, List, Option, Some, None, slice_get, slice_index, slice_set}
 use Rattle.pic_base.specs.declared.outcome.Outcome.{Outcome}
@@ -16,7 +16,7 @@ use Rattle.script_tree.specs.declared.program.Stmt.TheVariants as stmt
 use Rattle.fiber_body.specs.declared.standing.Exit.{Exit}
 use Rattle.fiber_body.specs.declared.standing.Exit.TheVariants.{Next, Raised, Broke}
 use Rattle.fiber_body.specs.Context.{Context, Numbering, comp_in, holds, limit_met, most, overflow, value, value_in, with_register}
-use Rattle.fiber_body.specs.Phases.{Phase, branches, calls, ended, goes_on, raise, repeating, tries}
+use Rattle.fiber_body.specs.Phases.{Phase, attaches_to, awaits_trigger, branches, calls, ended, goes_on, looking, looks, raise, repeating, tries}
 
 -- ---- statements without a call and without a block
 
@@ -110,15 +110,23 @@ born c _ = None
 
 -- ---- how statements begin
 
-abbrev pub first : Context → Stmt → Phase
-first c (stmt.If a test b then other) = branches (cond (holds test (value c a) (value c b)) (Some then) other)
-first c (stmt.Loop block) = repeating block Next
-first c (stmt.Try block register handler) = tries block register handler
-first c one = calls one
+-- one that names declared things begins so, where they have numbers
+abbrev pub named : Option ℕ → Stmt → (ℕ → Phase) → Phase
+named None one phase = calls one
+named (Some number) one phase = phase number
 
-abbrev pub or_first : Context → Stmt → Option Effect → Phase
-or_first c one None = first c one
-or_first c one (Some e) = ended e.exit (record c { registers = e.registers; cells = e.cells })
+abbrev pub first : Numbering → Context → Stmt → Phase
+first numbers c (stmt.Await t) = named (slice_get numbers.triggers t) (stmt.Await t) (λ n. awaits_trigger n looking)
+first numbers c (stmt.Attach r comp t) =
+    named (comp_in numbers.comps comp) (stmt.Attach r comp t) (λ k. named (slice_get numbers.triggers t) (stmt.Attach r comp t) (λ n. attaches_to r k n looks))
+first numbers c (stmt.If a test b then other) = branches (cond (holds test (value c a) (value c b)) (Some then) other)
+first numbers c (stmt.Loop block) = repeating block Next
+first numbers c (stmt.Try block register handler) = tries block register handler
+first numbers c one = calls one
 
-abbrev pub begins : Context → Stmt → Phase
-begins c one = or_first c one (result c.registers c.cells one)
+abbrev pub or_first : Numbering → Context → Stmt → Option Effect → Phase
+or_first numbers c one None = first numbers c one
+or_first numbers c one (Some e) = ended e.exit (record c { registers = e.registers; cells = e.cells })
+
+abbrev pub begins : Numbering → Context → Stmt → Phase
+begins numbers c one = or_first numbers c one (result c.registers c.cells one)

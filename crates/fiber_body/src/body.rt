@@ -6,6 +6,7 @@ ghost use Rattle.fiber_body.specs.Context.{value, with_register};
 ghost use Rattle.fiber_body.specs.New.{IsNew};
 ghost use Rattle.fiber_body.specs.Shown.{IsFrame, IsPopped, stood};
 ghost use Rattle.fiber_body.specs.Texts.{block_in};
+ghost use Rattle.fiber_body.specs.Triggers.{under};
 
 use crate::standing::{Frame, Standing};
 use crate::texts::block_of;
@@ -42,7 +43,7 @@ pub(crate) struct Content {
 }
 
 impl Model for Body {
-    ghost use Rattle.std.specs.Prelude.{reverse};
+    ghost use Rattle.std.specs.Prelude.{reverse, true};
     ghost use Rattle.fiber_body.specs.Shown.{Shown};
     ghost use Rattle.std.specs.Option.{option_map};
     ghost use Rattle.std.specs.Arc.{arc_value};
@@ -58,6 +59,7 @@ impl Model for Body {
         cells = body.content.value.cells;
         steps = body.content.value.steps;
         current = body.content.value.birth.current;
+        permitted = true;
       };
       standing = body.content.value.standing;
       frames = reverse body.content.value.frames.items;
@@ -152,6 +154,17 @@ impl Body {
         ensures of_birth { result ≡ self.now.birth.current }
     {
         self.content.birth.current
+    }
+
+    /// Under what its fiber waits: its current computation, of whose cancellation each fiber is told so far.
+    pub fn waits_under(&self) -> pic_machine::Standing
+        ensures under { result ≡ under self.now.context }
+        ensures of_birth { result.current ≡ self.now.birth.current }
+    {
+        pic_machine::Standing {
+            current: self.content.birth.current,
+            permitted: true,
+        }
     }
 
     /// The visible entries of its fiber so far.

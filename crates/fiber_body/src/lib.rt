@@ -34,12 +34,14 @@ mod numbering;
 mod standing;
 mod start;
 mod texts;
+mod under_way;
 
 pub use body::Body;
 pub use numbering::{Counted, Numbers};
 pub use standing::{Exit, Frame, Standing};
 pub use start::start_of;
 pub use texts::block_at;
+pub use under_way::UnderWay;
 
 #[cfg(test)]
 mod tests;

@@ -1,3 +1,4 @@
+use crate::under_way::UnderWay;
 use pic_base::{Outcome, Value};
 
 /// How statements end.
@@ -17,7 +18,16 @@ pub enum Exit {
 #[derive(Clone, Copy, Debug, PartialEq, Eq)]
 pub enum Standing {
     /// In the block with this number, before the statement with this place, or at the block's end.
-    At { block: u32, place: u32 },
+    At {
+        block: u32,
+        place: u32,
+    },
+    /// Within the statement with this place, from one of its calls to the next one.
+    Within {
+        block: u32,
+        place: u32,
+        way: UnderWay,
+    },
     /// Where the innermost block has ended so.
     Out(Exit),
     /// It has left its text, and is to end with this outcome.

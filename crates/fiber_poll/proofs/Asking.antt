@@ -1,6 +1,6 @@
 -- Statements that ask for one call: which one, and where its entry leads.
 use Rattle.std.specs.Prelude.{IsTrue}
-use Rattle.std.proofs.Common.{◌≡◌, ◌≢◌, ℕ, zero, suc, ◌+◌, ◌<◌, ◌≤◌, ◌==◌, Bool, false, cond, slice_get, Option, Some, None, List, [], ◌∷◌, ◌++◌, length, refl, sym, ap, subst, ◌∙◌, arith}
+use Rattle.std.proofs.Common.{◌≡◌, ◌≢◌, ℕ, zero, suc, ◌+◌, ◌<◌, ◌≤◌, ◌==◌, Bool, false, cond, slice_get, Option, Some, None, List, [], ◌∷◌, ◌++◌, refl, sym, ap, subst, ◌∙◌, arith}
 use Rattle.pic_machine.specs.declared.birth.Birth.{Birth}
 use Rattle.pic_machine.specs.declared.entry.Call.{Call}
 use Rattle.pic_machine.specs.declared.entry.Call.TheVariants as asked
@@ -17,7 +17,7 @@ use Rattle.script_tree.specs.declared.program.Stmt.{Stmt}
 use Rattle.script_tree.specs.declared.program.Stmt.TheVariants as stmt
 use Rattle.script_tree.specs.declared.thing.Sort.{Sort}
 use Rattle.script_tree.specs.declared.thing.Sort.TheVariants as sort
-use Rattle.script_tree.specs.Names.{sort_of, sort_number}
+use Rattle.script_tree.specs.Names.{sort_number}
 use Rattle.script_tree.specs.Tree.{Tree}
 use Rattle.script_tree.specs.WellFormed.{IsComp, IsOfSort, StmtFits}
 use Rattle.fiber_body.specs.declared.standing.Exit.{Exit}
@@ -29,31 +29,32 @@ use Rattle.fiber_body.specs.Fits.{LeadsTo, setting_of}
 use Rattle.fiber_body.specs.Follows.{context_of}
 use Rattle.fiber_body.specs.Framing.{ends_ahead, leads_entry}
 use Rattle.fiber_body.specs.Numbering.{more_counted}
-use Rattle.fiber_body.specs.Phases.{Phase, calls, ended, lives}
+use Rattle.fiber_body.specs.Phases.{Phase, attaches_to, awaits_trigger, calls, ended, lives, looking, looks}
 use Rattle.fiber_body.specs.Segments.{happens}
 use Rattle.fiber_body.specs.Shown.{IsSameRest, Shown, carry_of}
-use Rattle.fiber_body.specs.Statements.{begins, born, call_of, first, on, or_first, outcome_number, replied, result, state_number, won}
+use Rattle.fiber_body.specs.Statements.{begins, born, call_of, first, named as begins_named, on, or_first, outcome_number, replied, result, state_number, won}
 use Rattle.fiber_body.specs.Texts.{block_in, script_in}
 use Rattle.fiber_poll.specs.declared.spot.Spot.{Spot}
 use Rattle.fiber_poll.specs.Built.{is_built_comp, is_built_stmt}
 use Rattle.fiber_poll.specs.Polls.{IsPortOf}
 use Rattle.fiber_poll.specs.UnderWay.{CanAsk, CanRun, IsMade, IsOn, IsUp}
 use Rattle.fiber_poll.specs.Moving.{CostsStep, IsBefore, behind_at, taken, weight, weight_at}
-use Rattle.fiber_poll.proofs.Going.{on_lent, on_reserved, on_trans, program_up}
-use Rattle.fiber_poll.proofs.Moves.{behind, behind_live, costly, framed, stands_at}
+use Rattle.fiber_poll.proofs.Going.{between_live, on_lent, on_reserved, on_trans, owns_between, program_up}
+use Rattle.fiber_poll.proofs.Lighter.{behind_light}
+use Rattle.fiber_poll.proofs.Moves.{behind, behind_between, costly, framed, stands_at}
 
 -- ---- how such a statement begins
 
-first_stepped : (c : Context) (one : Stmt) → first c one ≡ calls one → first (stepped c) one ≡ calls one
-first_stepped c (stmt.If a test b then other) is = is
-first_stepped c _ is = is
+first_stepped : (numbers : Numbering) (c : Context) (one : Stmt) → first numbers c one ≡ calls one → first numbers (stepped c) one ≡ calls one
+first_stepped numbers c (stmt.If a test b then other) is = is
+first_stepped numbers c _ is = is
 
-costs_call : (c : Context) (one : Stmt) → first c one ≡ calls one → CostsStep one
-costs_call c (stmt.Loop block) is = absurd cc
-costs_call c _ is = tt
+costs_call : (numbers : Numbering) (c : Context) (one : Stmt) → first numbers c one ≡ calls one → CostsStep one
+costs_call numbers c (stmt.Loop block) is = absurd cc
+costs_call numbers c _ is = tt
 
-begins_call : (c : Context) (one : Stmt) → result c.registers c.cells one ≡ None → first c one ≡ calls one → begins (stepped c) one ≡ calls one
-begins_call c one none is = ap (or_first (stepped c) one) none ∙ first_stepped c one is
+begins_call : (numbers : Numbering) (c : Context) (one : Stmt) → result c.registers c.cells one ≡ None → first numbers c one ≡ calls one → begins numbers (stepped c) one ≡ calls one
+begins_call numbers c one none is = ap (or_first numbers (stepped c) one) none ∙ first_stepped numbers c one is
 
 born_stepped : (c : Context) (call : Call) → born (stepped c) call ≡ born c call
 born_stepped c (asked.Fork text v) = refl
@@ -81,16 +82,12 @@ left_by body spot exit c = record body { standing = behind_at spot exit; context
 taken_is : (b : Shown) (spot : Spot) (c : Context) (p : Phase) (e : EndsBy c p) → taken b spot p ≡ left_by b spot e.exit e.context
 taken_is b spot c p e = ap (taken b spot) e.is
 
-behind_weight : (spot : Spot) (x : Exit) → weight_at (behind_at spot x) ≤ 2
-behind_weight spot Next = omega arith
-behind_weight spot x = omega arith
-
 pub taken_lighter : (b : Shown) (spot : Spot) (one : Stmt) (reply : Reply) → b.standing ≡ At spot.block spot.place → 0 < b.context.steps → weight (taken b spot (replied (stepped b.context) one reply)) < weight b
 taken_lighter b spot one reply at some =
     let e = ends_by_reply (stepped b.context) one reply in
     let there : weight (taken b spot (replied (stepped b.context) one reply)) ≡ weight (left_by b spot e.exit e.context) = ap weight (taken_is b spot (stepped b.context) (replied (stepped b.context) one reply) e) in
     let before : weight_at b.standing ≡ 2 = ap weight_at at in
-    let light = behind_weight spot e.exit in
+    let light = behind_light spot e.exit in
     omega (arith, there, before, light, e.steps, some)
 
 -- what is owed doesn't change by it
@@ -114,14 +111,14 @@ module _ (a : Shown) (f : ℕ) (spot : Spot) (one : Stmt) (call : Call) (reply :
   LeadsThere = Leads s (lives (block_in a.program a.birth.text)) (context_of a.birth)
 
   -- the log leads to where the statement asks for its call
-  led_within : IsBefore a spot one → result a.context.registers a.context.cells one ≡ None → first a.context one ≡ calls one → LeadsTo a f mine → LeadsThere mine (within (calls one)) outer c
+  led_within : IsBefore a spot one → result a.context.registers a.context.cells one ≡ None → first (numbering (script_in a.program).decls) a.context one ≡ calls one → LeadsTo a f mine → LeadsThere mine (within (calls one)) outer c
   led_within before none is leads =
       let there : LeadsThere mine (at_stmt spot.block spot.place) (framed a.frames) a.context = subst (λ (x : Shown). LeadsTo x f mine) (stands_at a (At spot.block spot.place) before.here.at) leads in
-      subst (λ (p : Phase). LeadsThere mine (within p) outer c) (begins_call a.context one none is)
-      (λ tail y e ahead. there tail y e (costly s spot a.frames one a.context (costs_call a.context one is) before.here.is before.steps tail y e ahead))
+      subst (λ (p : Phase). LeadsThere mine (within p) outer c) (begins_call (numbering (script_in a.program).decls) a.context one none is)
+      (λ tail y e ahead. there tail y e (costly s spot a.frames one a.context (costs_call (numbering (script_in a.program).decls) a.context one is) before.here.is before.steps tail y e ahead))
 
   -- and with the call's entry to where the reply leads
-  pub leads_asked : IsBefore a spot one → result a.context.registers a.context.cells one ≡ None → first a.context one ≡ calls one
+  pub leads_asked : IsBefore a spot one → result a.context.registers a.context.cells one ≡ None → first (numbering (script_in a.program).decls) a.context one ≡ calls one
       → call_of (numbering (script_in a.program).decls) c one ≡ Some call → LeadsTo a f mine
       → LeadsTo (left_by a spot (ends_by_reply c one reply).exit (ends_by_reply c one reply).context) f (mine ++ happens f call reply (born a.context call) ∷ [])
   leads_asked before none is asks leads =
@@ -137,7 +134,7 @@ module _ (a : Shown) (f : ℕ) (spot : Spot) (one : Stmt) (call : Call) (reply :
 -- ---- calls that a statement asks for, and behind which its turn goes on
 
 -- what is declared at the place of a thing of this sort has a number below those behind all of them
-numbered : (sort : Sort) (n : ℕ) (ds : List Decl) (place : ℕ) → IsOfSort (λ s. s == sort_number sort) (slice_get ds place)
+pub numbered : (sort : Sort) (n : ℕ) (ds : List Decl) (place : ℕ) → IsOfSort (λ s. s == sort_number sort) (slice_get ds place)
     → (k : ℕ) × (slice_get (numbers_of sort n ds) place ≡ Some k) × (k < n + count_of sort ds)
 numbered sort n [] place is = absurd is
 numbered sort n (d ∷ ds) zero is =
@@ -149,7 +146,7 @@ numbered sort n (d ∷ ds) (suc place) is =
     let more = more_counted sort n d ds in
     (later.0, later.1, omega (arith, later.2, more))
 
-comp_there : (tree : Tree) (comp : CompRef) → IsComp tree comp → IsTrue (is_built_comp comp) → (k : ℕ) × (comp_in (numbers_of sort.Comp 1 tree.decls) comp ≡ Some k) × (k ≤ count_of sort.Comp tree.decls)
+pub comp_there : (tree : Tree) (comp : CompRef) → IsComp tree comp → IsTrue (is_built_comp comp) → (k : ℕ) × (comp_in (numbers_of sort.Comp 1 tree.decls) comp ≡ Some k) × (k ≤ count_of sort.Comp tree.decls)
 comp_there tree Root is built = (0, refl, omega arith)
 comp_there tree (Named place) is built = let found = numbered sort.Comp 1 tree.decls place is in (found.0, found.1, omega (arith, found.2))
 comp_there tree (PromiseIn register) is built = absurd cc
@@ -168,12 +165,23 @@ module _ (tree : Tree) (c : Context) where
       let found = numbered sort.Trigger 0 tree.decls place is in
       subst (λ (o : Option ℕ). IsAsked tree (on o (λ n. asked.Signal n))) (sym found.1) (omega (arith, found.2))
 
-  asks_by : (holder : ℕ) (one : Stmt) → StmtFits tree holder one → IsTrue (is_built_stmt one) → result c.registers c.cells one ≡ None → first c one ≡ calls one → one ≢ stmt.Yield
+  asks_by : (holder : ℕ) (one : Stmt) → StmtFits tree holder one → IsTrue (is_built_stmt one) → result c.registers c.cells one ≡ None → first (numbering tree.decls) c one ≡ calls one → one ≢ stmt.Yield
       → IsAsked tree (call_of (numbering tree.decls) (stepped c) one)
   asks_by holder stmt.Yield fits built none is apart = absurd (apart refl)
+  asks_by holder (stmt.Await place) fits built none is apart =
+      let found = numbered sort.Trigger 0 tree.decls place fits.0 in
+      absurd (let there : awaits_trigger found.0 looking ≡ calls (stmt.Await place) = subst (λ (o : Option ℕ). begins_named o (stmt.Await place) (λ n. awaits_trigger n looking) ≡ calls (stmt.Await place)) found.1 is in cc)
+  asks_by holder (stmt.Attach r comp place) fits built none is apart =
+      let one : Stmt = stmt.Attach r comp place in
+      let trigger = numbered sort.Trigger 0 tree.decls place fits.1.1.0 in
+      let found = comp_there tree comp fits.1.0 built in
+      let triggers = numbers_of sort.Trigger 0 tree.decls in
+      absurd (let there : attaches_to r found.0 trigger.0 looks ≡ calls one =
+      subst (λ (o : Option ℕ). begins_named o one (λ n. attaches_to r found.0 n looks) ≡ calls one) trigger.1
+      (subst (λ (o : Option ℕ). begins_named o one (λ k. begins_named (slice_get triggers place) one (λ n. attaches_to r k n looks)) ≡ calls one) found.1 is) in cc)
   asks_by holder _ fits built none is apart = first_of (search (named, signalled, fits, built), cc)
 
-  module _ (numbers : Numbering) (counted : numbers ≡ numbering tree.decls) (one : Stmt) (can : CanRun tree one) (none : result c.registers c.cells one ≡ None) (is : first c one ≡ calls one) (apart : one ≢ stmt.Yield) where
+  module _ (numbers : Numbering) (counted : numbers ≡ numbering tree.decls) (one : Stmt) (can : CanRun tree one) (none : result c.registers c.cells one ≡ None) (is : first (numbering tree.decls) c one ≡ calls one) (apart : one ≢ stmt.Yield) where
     asked_one : (found : Option Call) → call_of numbers (stepped c) one ≡ found → IsAsked tree found
     asked_one found same = subst (IsAsked tree) (ap (λ (ns : Numbering). call_of ns (stepped c) one) (sym counted) ∙ same) (asks_by can.holder one can.fits can.built none is apart)
 
@@ -196,7 +204,7 @@ goes_on_by tree f _ reply birth can = absurd can
 
 -- room was made for the entry, and it was made, and the reply has ended the statement
 module _ (p q : Sight (Option Tree)) (before now : Option (List ℕ)) (tree : Tree) (spot : Spot) (one : Stmt) (call : Call) (reply : Reply) (can : CanAsk tree call) where
-  on_made : (a b : Shown) → IsUp p a → IsBefore a spot one → result a.context.registers a.context.cells one ≡ None → first a.context one ≡ calls one
+  on_made : (a b : Shown) → IsUp p a → IsBefore a spot one → result a.context.registers a.context.cells one ≡ None → first (numbering (script_in a.program).decls) a.context one ≡ calls one
       → call_of (numbering (script_in a.program).decls) (stepped a.context) one ≡ Some call → IsMade p q a b before now call reply
       → IsOn p q a (taken b spot (replied (stepped b.context) one reply)) before now
   on_made a b up here none is asks made =
@@ -210,9 +218,10 @@ module _ (p q : Sight (Option Tree)) (before now : Option (List ℕ)) (tree : Tr
       subst (λ (d : Shown). IsOn p q a d before now) (sym there)
       (on_lent p q a (left_by b spot e.exit e.context) before now h up made.lent refl goes.1 refl goes.0 made.line
       (subst (λ (d : Shown). LeadsTo d f (own (log p.front f) ++ h ∷ [])) (sym same) (leads_asked a f spot one call reply (own (log p.front f)) here none is asks up.leads))
-      (behind_live spot e.exit))
+      (owns_between (script_in (left_by b spot e.exit e.context).program) f (own (log p.front f) ++ h ∷ []) (behind_at spot e.exit) (behind_between spot e.exit))
+      (between_live (behind_at spot e.exit) (behind_between spot e.exit)))
 
-  pub on_called : (a b d : Shown) (numbers : Numbering) → numbers ≡ numbering tree.decls → IsPortOf tree p → IsUp p a → IsBefore a spot one → result a.context.registers a.context.cells one ≡ None → first a.context one ≡ calls one
+  pub on_called : (a b d : Shown) (numbers : Numbering) → numbers ≡ numbering tree.decls → IsPortOf tree p → IsUp p a → IsBefore a spot one → result a.context.registers a.context.cells one ≡ None → first (numbering tree.decls) a.context one ≡ calls one
       → call_of numbers (stepped a.context) one ≡ Some call → Notes (carry_of a) (carry_of b) [] → IsSameRest a b → IsMade p q b d before now call reply
       → IsOn p q a (taken d spot (replied (stepped d.context) one reply)) before now
   on_called a b d numbers counted of up here none is asks notes same_rest made =
@@ -222,6 +231,6 @@ module _ (p q : Sight (Option Tree)) (before now : Option (List ℕ)) (tree : Tr
       let same = sym same_rest.context in
       on_trans on
       (on_made b d on.up (subst (λ (z : Shown). IsBefore z spot one) (sym there) (record { here = record { at = here.here.at; is = here.here.is; within = here.here.within }; steps = here.steps }))
-      (subst (λ (c : Context). result c.registers c.cells one ≡ None) same none) (subst (λ (c : Context). first c one ≡ calls one) same is)
+      (subst (λ (c : Context). result c.registers c.cells one ≡ None) same none) (subst (λ (t : Tree). first (numbering t.decls) b.context one ≡ calls one) program (subst (λ (c : Context). first (numbering tree.decls) c one ≡ calls one) same is))
       (subst (λ (t : Tree). call_of (numbering t.decls) (stepped b.context) one ≡ Some call) program
       (subst (λ (c : Context). call_of (numbering tree.decls) (stepped c) one ≡ Some call) same (ap (λ (ns : Numbering). call_of ns (stepped a.context) one) (sym counted) ∙ asks))) made)

@@ -8,9 +8,9 @@ use Rattle.fiber_body.specs.declared.standing.Exit.{Exit}
 use Rattle.fiber_body.specs.declared.standing.Exit.TheVariants.{Next, Raised, Broke, Spent}
 use Rattle.fiber_body.specs.declared.standing.Frame.{Frame}
 use Rattle.fiber_body.specs.declared.standing.Frame.TheVariants.{Rest, Repeats, Catches}
-use Rattle.fiber_body.specs.declared.standing.Standing.TheVariants.{At, Out, Ending, Ended}
+use Rattle.fiber_body.specs.declared.standing.Standing.TheVariants.{At, Out, Ending}
 use Rattle.fiber_body.specs.Around.{Turns, around_of, at_stmt, out, place_of, rest}
-use Rattle.fiber_body.specs.Context.{Context, block_at, stepped}
+use Rattle.fiber_body.specs.Context.{Context, block_at, numbering, stepped}
 use Rattle.fiber_body.specs.Fits.{setting_of}
 use Rattle.fiber_body.specs.Framing.{begins_ahead, closes_ahead, end_ahead, ends_ahead, enters_ahead, goes_ahead, nothing_ahead, passes_ahead, rest_ahead, spent_ahead}
 use Rattle.fiber_body.specs.Phases.{repeating}
@@ -19,7 +19,7 @@ use Rattle.fiber_body.specs.Shown.{Shown, carry_of, stood}
 use Rattle.fiber_body.specs.Tables.{catches, ends_by, ends_text, outcome_of, repeats, settles}
 use Rattle.fiber_body.specs.Texts.{script_in}
 use Rattle.fiber_poll.specs.declared.spot.Spot.{Spot}
-use Rattle.fiber_poll.specs.Moving.{ChoosesBlock, Goes, IsAt, IsBefore, branched, entered, passed, round_of, weight}
+use Rattle.fiber_poll.specs.Moving.{ChoosesBlock, Goes, IsAt, IsBefore, IsBetween, branched, entered, passed, round_of, weight}
 use Rattle.fiber_poll.proofs.Moves.{before_on, behind, begun_goes, framed, goes_by, goes_trans, headed, round_row, same_blocks, stands_at}
 
 -- ---- entering
@@ -28,23 +28,23 @@ module _ (a : Shown) (spot : Spot) where
   -- a test chose this block
   branch_goes : (one : Stmt) (block : ℕ) → IsBefore a spot one → ChoosesBlock a.context one block → Goes a (entered a spot [] block)
   branch_goes one block before chooses =
-      begun_goes before chooses.costs refl (λ q. cc) (λ f. goes_ahead (setting_of a f) (rest spot.block (spot.place + 1) ∷ framed a.frames) (chooses.row (a.context.steps - 1)))
+      begun_goes before chooses.costs refl tt (λ f. goes_ahead (setting_of a f) (rest spot.block (spot.place + 1) ∷ framed a.frames) (chooses.row (numbering (script_in a.program).decls) (a.context.steps - 1)))
 
   -- where it is the last statement of its block, no frame is needed
   branched_goes : (one : Stmt) (block : ℕ) (last : Bool) → IsBefore a spot one → ChoosesBlock a.context one block → OnTrue last (slice_get (block_at (script_in a.program).blocks spot.block) (spot.place + 1) ≡ None)
       → Goes a (branched a spot block last)
   branched_goes one block true before chooses over =
-      goes_trans a (entered a spot [] block) (stood a (At block 0) (a.context.steps - 1)) (branch_goes one block before chooses) (goes_by (At block 0) refl refl (λ q. cc)
+      goes_trans a (entered a spot [] block) (stood a (At block 0) (a.context.steps - 1)) (branch_goes one block before chooses) (goes_by (At block 0) refl refl tt
       (λ f. let s = setting_of a f in nothing_ahead s (at_stmt block 0) spot.block (spot.place + 1) (framed a.frames) (stepped a.context) (past_end (block_at s.script.blocks spot.block) (spot.place + 1) over)))
   branched_goes one block false before chooses over = branch_goes one block before chooses
 
   pub loop_goes : (block : ℕ) → IsBefore a spot (stmt.Loop block) → Goes a (entered a spot (Repeats block ∷ []) block)
-  loop_goes block before = goes_by (At spot.block spot.place) before.here.at refl (λ q. cc) (λ f tail y e ahead. let s = setting_of a f in
+  loop_goes block before = goes_by (At spot.block spot.place) before.here.at refl tt (λ f tail y e ahead. let s = setting_of a f in
       begins_ahead s (stmt.Loop block) spot.block spot.place (framed a.frames) a.context (at_place (block_at s.script.blocks spot.block) spot.place (stmt.Loop block) before.here.is) tt tail y e
       (enters_ahead s (rest spot.block (spot.place + 1) ∷ framed a.frames) (round_row block a.context before.steps) tail y e ahead))
 
   pub try_goes : (block register handler : ℕ) → IsBefore a spot (stmt.Try block register handler) → Goes a (entered a spot (Catches register handler ∷ []) block)
-  try_goes block register handler before = begun_goes before tt refl (λ q. cc) (λ f. enters_ahead (setting_of a f) (rest spot.block (spot.place + 1) ∷ framed a.frames) refl)
+  try_goes block register handler before = begun_goes before tt refl tt (λ f. enters_ahead (setting_of a f) (rest spot.block (spot.place + 1) ∷ framed a.frames) refl)
 
   -- no step is left
   pub spent_goes : (one : Stmt) → IsAt a spot one → a.context.steps ≡ 0 → Goes a (stood a (Out Spent) 0)
@@ -55,7 +55,7 @@ module _ (a : Shown) (spot : Spot) where
         turns = λ f tail y e ahead. let s = setting_of a f in
             begins_ahead s (stmt.Loop block) spot.block spot.place (framed a.frames) c (at_place (block_at s.script.blocks spot.block) spot.place (stmt.Loop block) here.is) tt tail y e
             (ends_ahead s (rest spot.block (spot.place + 1) ∷ framed a.frames) refl tail y e (behind s spot a.frames Spent c tail y e ahead));
-        live = λ q. cc;
+        between = tt;
       })
   spent_goes one here none =
       let c : Context = record a.context { steps = 0 } in
@@ -63,7 +63,7 @@ module _ (a : Shown) (spot : Spot) where
         same = refl;
         turns = λ f. let s = setting_of a f in
             spent_ahead s one spot.block spot.place (framed a.frames) c (at_place (block_at s.script.blocks spot.block) spot.place one here.is) refl;
-        live = λ q. cc;
+        between = tt;
       })
 
 -- a test behind a run of statements chose a block
@@ -90,21 +90,21 @@ branched_lighter a spot block false from place n some = omega (arith, some)
 
 -- a block has come to its end
 pub end_goes : (a : Shown) (block place : ℕ) → a.standing ≡ At block place → slice_get (block_at (script_in a.program).blocks block) place ≡ None → Goes a (stood a (Out Next) a.context.steps)
-end_goes a block place at past = goes_by (At block place) at refl (λ q. cc) (λ f. let s = setting_of a f in
+end_goes a block place at past = goes_by (At block place) at refl tt (λ f. let s = setting_of a f in
     end_ahead s block place (framed a.frames) a.context (past_end (block_at s.script.blocks block) place past))
 
 -- ---- leaving
 
 -- the text is left
 pub text_goes : (a : Shown) (x : Exit) → a.standing ≡ Out x → a.frames ≡ [] → Goes a (stood a (Ending (outcome_of x a.context)) a.context.steps)
-text_goes a x at none = goes_by (Out x) at refl (λ q. cc) (λ f. let s = setting_of a f in
-    subst (λ (frames : List Frame). Turns s (out x) (framed frames) a.context (place_of (Ending (outcome_of x a.context))) [] a.context) (sym none) (closes_ahead s ends_text [] x a.context))
+text_goes a x at none = goes_by (Out x) at refl tt (λ f. let s = setting_of a f in
+    subst (λ (frames : List Frame). Turns s (out x) (framed frames) a.context (place_of a.context (Ending (outcome_of x a.context))) [] a.context) (sym none) (closes_ahead s ends_text [] x a.context))
 
 -- a loop goes round
 pub again_goes : (a : Shown) (block : ℕ) → a.standing ≡ Out Next → slice_get a.frames 0 ≡ Some (Repeats block) → 0 < a.context.steps → Goes a (stood a (At block 0) (a.context.steps - 1))
 again_goes a block at first some =
     let found = headed a.frames (Repeats block) first in
-    goes_by (Out Next) at refl (λ q. cc) (λ f. let s = setting_of a f in
+    goes_by (Out Next) at refl tt (λ f. let s = setting_of a f in
     subst (λ (frames : List Frame). Turns s (out Next) (framed frames) a.context (at_stmt block 0) (framed frames) (stepped a.context)) (sym found.1)
     (λ tail y e ahead. closes_ahead s (repeats block) (framed found.0) Next a.context tail y e (enters_ahead s (framed found.0) (round_row block a.context some) tail y e ahead)))
 
@@ -119,26 +119,26 @@ module _ (a : Shown) (outer : List Frame) where
   abbrev w : Frame → Exit → Shown
   w frame x = passed (record a { frames = outer }) frame x
 
-  closed : (frame : Frame) (x : Exit) (b : Shown) → carry_of b ≡ carry_of a → ((f : ℕ) → Turns (setting_of a f) (out x) (framed (frame ∷ outer)) a.context (place_of b.standing) (around_of b.standing b.frames) b.context) → b.standing ≢ Ended → Goes (v x frame) b
-  closed frame x b same turns live = record { same = same; turns = turns; live = live }
+  closed : (frame : Frame) (x : Exit) (b : Shown) → carry_of b ≡ carry_of a → ((f : ℕ) → Turns (setting_of a f) (out x) (framed (frame ∷ outer)) a.context (place_of b.context b.standing) (around_of b.standing b.frames) b.context) → IsBetween b.standing → Goes (v x frame) b
+  closed frame x b same turns between = record { same = same; turns = turns; between = between }
 
   repeats_goes : (block : ℕ) (x : Exit) → (x ≡ Next → a.context.steps ≡ 0) → Goes (v x (Repeats block)) (w (Repeats block) x)
   repeats_goes block Next none = closed (Repeats block) Next (w (Repeats block) Next) refl (λ f tail y e ahead. let s = setting_of a f in
-      closes_ahead s (repeats block) (framed outer) Next a.context tail y e (ends_ahead s (framed outer) (no_round block a.context.steps a.context (none refl) refl) tail y e ahead)) (λ q. cc)
+      closes_ahead s (repeats block) (framed outer) Next a.context tail y e (ends_ahead s (framed outer) (no_round block a.context.steps a.context (none refl) refl) tail y e ahead)) tt
   repeats_goes block Broke none = closed (Repeats block) Broke (w (Repeats block) Broke) refl (λ f tail y e ahead. let s = setting_of a f in
-      closes_ahead s (repeats block) (framed outer) Broke a.context tail y e (ends_ahead s (framed outer) refl tail y e ahead)) (λ q. cc)
+      closes_ahead s (repeats block) (framed outer) Broke a.context tail y e (ends_ahead s (framed outer) refl tail y e ahead)) tt
   repeats_goes block x none = closed (Repeats block) x (w (Repeats block) x) refl (λ f tail y e ahead. let s = setting_of a f in
-      closes_ahead s (repeats block) (framed outer) x a.context tail y e (ends_ahead s (framed outer) refl tail y e ahead)) (λ q. cc)
+      closes_ahead s (repeats block) (framed outer) x a.context tail y e (ends_ahead s (framed outer) refl tail y e ahead)) tt
 
   catches_goes : (register handler : ℕ) (x : Exit) → Goes (v x (Catches register handler)) (w (Catches register handler) x)
   catches_goes register handler (Raised code) = closed (Catches register handler) (Raised code) (w (Catches register handler) (Raised code)) refl (λ f tail y e ahead. let s = setting_of a f in
-      closes_ahead s (catches register handler) (framed outer) (Raised code) a.context tail y e (goes_ahead s (framed outer) refl tail y e ahead)) (λ q. cc)
+      closes_ahead s (catches register handler) (framed outer) (Raised code) a.context tail y e (goes_ahead s (framed outer) refl tail y e ahead)) tt
   catches_goes register handler x = closed (Catches register handler) x (w (Catches register handler) x) refl (λ f tail y e ahead. let s = setting_of a f in
-      closes_ahead s (catches register handler) (framed outer) x a.context tail y e (ends_ahead s (framed outer) refl tail y e ahead)) (λ q. cc)
+      closes_ahead s (catches register handler) (framed outer) x a.context tail y e (ends_ahead s (framed outer) refl tail y e ahead)) tt
 
   rest_goes : (block place : ℕ) (x : Exit) → Goes (v x (Rest block place)) (w (Rest block place) x)
-  rest_goes block place Next = closed (Rest block place) Next (w (Rest block place) Next) refl (λ f. rest_ahead (setting_of a f) block place (framed outer) a.context) (λ q. cc)
-  rest_goes block place x = closed (Rest block place) x (w (Rest block place) x) refl (λ f. passes_ahead (setting_of a f) block place (framed outer) x a.context (λ q. cc)) (λ q. cc)
+  rest_goes block place Next = closed (Rest block place) Next (w (Rest block place) Next) refl (λ f. rest_ahead (setting_of a f) block place (framed outer) a.context) tt
+  rest_goes block place x = closed (Rest block place) x (w (Rest block place) x) refl (λ f. passes_ahead (setting_of a f) block place (framed outer) x a.context (λ q. cc)) tt
 
   pub pass_goes : (frame : Frame) (x : Exit) → (x ≡ Next → (block : ℕ) → frame ≡ Repeats block → a.context.steps ≡ 0) → Goes (v x frame) (w frame x)
   pass_goes (Repeats block) x none = repeats_goes block x (λ is. none is block refl)

@@ -5,6 +5,7 @@ use Rattle.pic_machine.specs.declared.birth.Birth.{Birth}
 use Rattle.pic_machine.specs.declared.entry.Call.{Call}
 use Rattle.pic_machine.specs.declared.entry.Call.TheVariants as asked
 use Rattle.pic_machine.specs.declared.entry.Entry.{Entry}
+use Rattle.pic_machine.specs.declared.entry.Reply.{Reply}
 use Rattle.pic_machine.specs.declared.entry.Reply.TheVariants.{Plain}
 use Rattle.pic_machine.specs.declared.poller.Turn.{Turn}
 use Rattle.pic_machine.specs.declared.port.PortFault.{PortFault}
@@ -35,6 +36,7 @@ use Rattle.fiber_body.specs.Follows.{context_of}
 use Rattle.fiber_body.specs.Framing.{ends_ahead, leads_entry}
 use Rattle.fiber_body.specs.Laws.{fits_led}
 use Rattle.fiber_body.specs.New.{IsNew}
+use Rattle.fiber_body.specs.Owns.{Owns}
 use Rattle.fiber_body.specs.Phases.{Phase, ending, ends, gone, lives}
 use Rattle.fiber_body.specs.Shown.{IsSameRest, Shown, carry_of, stood}
 use Rattle.fiber_body.specs.Texts.{block_in, script_in}
@@ -44,17 +46,17 @@ use Rattle.fiber_poll.specs.Polls.{IsPortOf}
 use Rattle.fiber_poll.specs.UnderWay.{CanAsk, IsHandedBack, IsOn, IsUp}
 use Rattle.fiber_poll.proofs.Asking.{ends_by_reply, leads_asked}
 use Rattle.fiber_poll.proofs.Births.{current_stands}
-use Rattle.fiber_poll.proofs.Going.{leads_same, on_spared, on_trans, same_number}
+use Rattle.fiber_poll.proofs.Going.{leads_same, on_spared, on_trans, owns_same, same_number}
 use Rattle.fiber_poll.proofs.Moves.{stands_at}
 
 -- ---- calls behind which the turn goes on
 
 module _ {script : Tree} {port : Sight (Option Tree)} (of : IsPortOf script port) where
   -- a computation that is declared stands
-  comp_stands : (comp : ℕ) → comp ≤ count_of sort.Comp script.decls → comp < length (world port.origin port.front).comps
+  pub comp_stands : (comp : ℕ) → comp ≤ count_of sort.Comp script.decls → comp < length (world port.origin port.front).comps
   comp_stands comp there = let stay = comps_stay port.origin port.front in let few = of.comps in omega (arith, there, stay, few)
 
-  trigger_stands : (trigger : ℕ) → trigger < count_of sort.Trigger script.decls → trigger < length (world port.origin port.front).triggers
+  pub trigger_stands : (trigger : ℕ) → trigger < count_of sort.Trigger script.decls → trigger < length (world port.origin port.front).triggers
   trigger_stands trigger there = let stay = triggers_from port.origin.world port.front in let few = of.triggers in omega (arith, there, stay, few)
 
   pub names_stand : (call : Call) → CanAsk script call → NamesStand (world port.origin port.front) call
@@ -86,16 +88,17 @@ same_fiber : (number : Option ℕ) (f g : ℕ) → number ≡ Some f → MayBeOf
 same_fiber number f g is mine = (subst (λ (n : Option ℕ). MayBeOf n g) is mine).0
 
 -- a body of fiber f fits where the fiber's own log leads to it
-fits_as : (body : Shown) (f : ℕ) (hs : List Happened) → body.number ≡ Some f → body.noted ≡ visible hs → LeadsTo body f (own hs) → (body.standing ≡ Ended → IsOver f hs) → Fits body hs
-fits_as body f hs number noted leads over =
+fits_as : (body : Shown) (f : ℕ) (hs : List Happened) → body.number ≡ Some f → body.noted ≡ visible hs → LeadsTo body f (own hs) → Owns (script_in body.program) f (own hs) body.standing → (body.standing ≡ Ended → IsOver f hs) → Fits body hs
+fits_as body f hs number noted leads owns over =
     fits_led body hs noted
     (λ g mine. subst (λ (n : ℕ). LeadsTo body n (own hs)) (same_fiber body.number f g number mine) leads)
+    (λ g mine. subst (λ (n : ℕ). Owns (script_in body.program) n (own hs) body.standing) (same_fiber body.number f g number mine) owns)
     (λ g mine ended. subst (λ (n : ℕ). IsOver n hs) (same_fiber body.number f g number mine) (over ended))
 
 module _ {p q : Sight (Option Tree)} {a b : Shown} {before now : Option (List ℕ)} where
   on_fits : IsOn p q a b before now → Fits b (log q.front (fiber_of (carry_of a)))
   on_fits on = subst (λ (n : ℕ). Fits b (log q.front n)) (same_number a b on.went.number)
-      (let f = fiber_of (carry_of b) in fits_as b f (log q.front f) on.up.holds.number on.up.holds.noted on.up.leads (λ ended. absurd (on.up.live ended)))
+      (let f = fiber_of (carry_of b) in fits_as b f (log q.front f) on.up.holds.number on.up.holds.noted on.up.leads on.up.owns (λ ended. absurd (on.up.live ended)))
 
   pub handed : (fault : PortFault) (answer : Turn Shown) → IsOn p q a b before now → Faulted fault p q → IsHandedBack fault b answer → Polled answer carry_of Fits p q (carry_of a) before now
   handed Full answer on why back = absurd why
@@ -118,12 +121,12 @@ handed_set_back {p} {q} {a} {ready} {back = back} {final = final} {told = told} 
 -- ---- bodies that the port takes back
 
 -- the turn is over
-pub stopped : {p q : Sight (Option Tree)} {a ready moved : Shown} {before now : Option (List ℕ)} (there : Standing) (n : ℕ) (call : Call) (How : Happened → Type 0) → IsOn p p a ready before before → moved ≡ stood ready there n
-    → Made p q (event (fiber_of (carry_of moved)) call Plain) → is_turn call ≡ false → stops call Plain ≡ true → How (event (fiber_of (carry_of ready)) call Plain) → Adds before now (readied_by (fiber_of (carry_of ready)) call Plain ++ []) → q.out ≡ None
+pub stopped : {p q : Sight (Option Tree)} {a ready moved : Shown} {before now : Option (List ℕ)} (there : Standing) (n : ℕ) (call : Call) (re : Reply) (How : Happened → Type 0) → IsOn p p a ready before before → moved ≡ stood ready there n
+    → Made p q (event (fiber_of (carry_of moved)) call re) → is_turn call ≡ false → stops call re ≡ true → How (event (fiber_of (carry_of ready)) call re) → Adds before now (readied_by (fiber_of (carry_of ready)) call re ++ []) → q.out ≡ None
     → Stopped p q (fiber_of (carry_of a)) before now How
-stopped {p} {q} {a} {ready} {before = before} {now = now} there n call How on is made within last how line out =
-    let h = event (fiber_of (carry_of ready)) call Plain in
-    went_stopped p p q (carry_of a) (carry_of ready) before before now How h on.went (subst (λ (d : Shown). Made p q (event (fiber_of (carry_of d)) call Plain)) is made) refl within last how line out
+stopped {p} {q} {a} {ready} {before = before} {now = now} there n call re How on is made within last how line out =
+    let h = event (fiber_of (carry_of ready)) call re in
+    went_stopped p p q (carry_of a) (carry_of ready) before before now How h on.went (subst (λ (d : Shown). Made p q (event (fiber_of (carry_of d)) call re)) is made) refl within last how line out
 
 -- the statement is next for a body with the same rest too
 pub before_same : {a b : Shown} {spot : Spot} {one : Stmt} → IsSameRest a b → b.program ≡ a.program → IsBefore a spot one → IsBefore b spot one
@@ -144,26 +147,28 @@ module _ {port : Sight (Option Tree)} {a : Shown} (up : IsUp port a) where
   hs = log port.front f
 
   -- what the port asks for, where the body stands where the entry leads
-  abbrev TakesBack : Shown → Call → Type 0
-  TakesBack d call = FitsWith carry_of IsSameRest Fits d (log port.front (fiber_of (carry_of d))) (event (fiber_of (carry_of d)) call Plain)
+  abbrev pub TakesBack : Shown → Call → Reply → Type 0
+  TakesBack d call re = FitsWith carry_of IsSameRest Fits d (log port.front (fiber_of (carry_of d))) (event (fiber_of (carry_of d)) call re)
 
-  taken_back : (there : Standing) (n : ℕ) (call : Call) → is_hidden call Plain ≡ false → LeadsTo (stood a there n) f (own hs ++ event f call Plain ∷ []) → (there ≡ Ended → IsOver f (hs ++ event f call Plain ∷ []))
-      → TakesBack (stood a there n) call
-  taken_back there n call shown leads over noted notes rest =
-      let h = event f call Plain in
+  pub taken_back : (there : Standing) (n : ℕ) (call : Call) (re : Reply) → is_hidden call re ≡ false → LeadsTo (stood a there n) f (own hs ++ event f call re ∷ [])
+      → Owns (script_in a.program) f (own hs ++ event f call re ∷ []) there → (there ≡ Ended → IsOver f (hs ++ event f call re ∷ [])) → TakesBack (stood a there n) call re
+  taken_back there n call re shown leads owns over noted notes rest =
+      let h = event f call re in
+      let logs : own (hs ++ h ∷ []) ≡ own hs ++ h ∷ [] = own-event hs f call re in
       fits_as noted f (hs ++ h ∷ []) (notes.number ∙ up.holds.number)
       (notes.noted ∙ (ap (λ (es : List Entry). es ++ h.entry ∷ []) up.holds.noted ∙ sym (visible-push hs h shown)))
-      (leads_same (stood a there n) noted f (own (hs ++ h ∷ [])) rest notes.birth notes.share (subst (LeadsTo (stood a there n) f) (sym (own-event hs f call Plain)) leads))
+      (leads_same (stood a there n) noted f (own (hs ++ h ∷ [])) rest notes.birth notes.share (subst (LeadsTo (stood a there n) f) (sym logs) leads))
+      (owns_same (stood a there n) noted f (own (hs ++ h ∷ [])) rest notes.share (subst (λ (xs : List Happened). Owns (script_in a.program) f xs there) (sym logs) owns))
       (λ ended. over (sym rest.standing ∙ ended))
 
   -- behind its yield
-  pub fits_yielded : (spot : Spot) {d : Shown} (there : Standing) (n : ℕ) → IsBefore a spot Yield → there ≡ behind_at spot Next → n ≡ a.context.steps → d ≡ stood a there (n - 1) → TakesBack d asked.Yield
+  pub fits_yielded : (spot : Spot) {d : Shown} (there : Standing) (n : ℕ) → IsBefore a spot Yield → there ≡ behind_at spot Next → n ≡ a.context.steps → d ≡ stood a there (n - 1) → TakesBack d asked.Yield Plain
   fits_yielded spot there n before behind_is left is =
       let e = ends_by_reply (stepped a.context) Yield Plain in
-      subst (λ (x : Shown). TakesBack x asked.Yield) (sym (is ∙ (ap (λ (st : Standing). stood a st (n - 1)) behind_is ∙ ap (λ (k : ℕ). stood a (behind_at spot Next) (k - 1)) left)))
-      (taken_back (behind_at spot Next) (a.context.steps - 1) asked.Yield refl
+      subst (λ (x : Shown). TakesBack x asked.Yield Plain) (sym (is ∙ (ap (λ (st : Standing). stood a st (n - 1)) behind_is ∙ ap (λ (k : ℕ). stood a (behind_at spot Next) (k - 1)) left)))
+      (taken_back (behind_at spot Next) (a.context.steps - 1) asked.Yield Plain refl
       (subst (λ (p : Phase). LeadsTo (taken a spot p) f (own hs ++ event f asked.Yield Plain ∷ [])) (sym e.is) (leads_asked a f spot Yield asked.Yield Plain (own hs) before refl refl refl up.leads))
-      (λ ended. absurd cc))
+      tt (λ ended. absurd cc))
 
   -- behind its end
   ending_leads : (outcome : Outcome) → a.standing ≡ Ending outcome → LeadsTo (stood a Ended a.context.steps) f (own hs ++ event f (asked.End outcome) Plain ∷ [])
@@ -173,7 +178,7 @@ module _ {port : Sight (Option Tree)} {a : Shown} (up : IsUp port a) where
       leads_entry s (lives (block_in a.program a.birth.text)) (context_of a.birth) (own hs) [] {p = ending outcome ends} {q = ending outcome gone} {c = a.context} (asked.End outcome) Plain refl refl there tail y d
       (ends_ahead s {p = ending outcome gone} [] refl tail y d ahead)
 
-  pub fits_ended : (outcome : Outcome) {d : Shown} (n : ℕ) → a.standing ≡ Ending outcome → n ≡ a.context.steps → d ≡ stood a Ended n → TakesBack d (asked.End outcome)
+  pub fits_ended : (outcome : Outcome) {d : Shown} (n : ℕ) → a.standing ≡ Ending outcome → n ≡ a.context.steps → d ≡ stood a Ended n → TakesBack d (asked.End outcome) Plain
   fits_ended outcome n ending_is left is =
-      subst (λ (x : Shown). TakesBack x (asked.End outcome)) (sym (is ∙ ap (stood a Ended) left))
-      (taken_back Ended a.context.steps (asked.End outcome) refl (ending_leads outcome ending_is) (λ ended. record { before = hs; outcome = outcome; is = refl }))
+      subst (λ (x : Shown). TakesBack x (asked.End outcome) Plain) (sym (is ∙ ap (stood a Ended) left))
+      (taken_back Ended a.context.steps (asked.End outcome) Plain refl (ending_leads outcome ending_is) tt (λ ended. record { before = hs; outcome = outcome; is = refl }))

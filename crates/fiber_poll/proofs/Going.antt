@@ -9,7 +9,7 @@ use Rattle.pic_machine.specs.declared.port.PortFault.TheVariants.{Full, Again, M
 use Rattle.pic_machine.specs.State.{owed_of}
 use Rattle.pic_machine.specs.Duty.{DutiesAllow}
 use Rattle.pic_machine.specs.Step.{ArmsOwn, NamesStand}
-use Rattle.pic_machine.specs.History.{NumbersFit, world}
+use Rattle.pic_machine.specs.History.{MayMake, NumbersFit, world}
 use Rattle.pic_machine.specs.Log.{is_turn, log, own}
 use Rattle.pic_machine.specs.Order.{GoesOn, readied}
 use Rattle.pic_machine.specs.Sight.{CanMake, Carry, Holds, Notes, Sight, fiber_of}
@@ -19,11 +19,14 @@ use Rattle.pic_machine.proofs.Owns.{own-push}
 use Rattle.pic_machine.proofs.Turns.{Went-trans, grew_made, grew_others, rose_from, went_lent, went_none, went_spared}
 use Rattle.fiber_await.specs.Discharging.{Discharged}
 use Rattle.script_tree.specs.Tree.{Tree}
-use Rattle.fiber_body.specs.declared.standing.Standing.TheVariants.{Ended}
+use Rattle.fiber_body.specs.declared.standing.Standing.{Standing}
+use Rattle.fiber_body.specs.declared.standing.Standing.TheVariants.{Within, Ended}
 use Rattle.fiber_body.specs.Fits.{LeadsTo}
+use Rattle.fiber_body.specs.Owns.{Owns}
 use Rattle.fiber_body.specs.Shown.{IsSameRest, Shown, carry_of}
+use Rattle.fiber_body.specs.Texts.{script_in}
 use Rattle.fiber_poll.specs.Laws.{port_later}
-use Rattle.fiber_poll.specs.Moving.{Goes}
+use Rattle.fiber_poll.specs.Moving.{Goes, IsBetween}
 use Rattle.fiber_poll.specs.Polls.{IsPortOf}
 use Rattle.fiber_poll.specs.UnderWay.{IsOn, IsUp}
 
@@ -33,22 +36,22 @@ allowed_free : (duties : List Duty) (call : Call) → duties ≡ [] → DutiesAl
 allowed_free duties call none = subst (λ (ds : List Duty). DutiesAllow ds call) (sym none) tt
 
 -- a fiber that owes nothing may make whatever names what stands, and what it may use
+pub may_make : {port : Sight (Option Tree)} {body : Shown} {call : Call} → IsUp port body → body.owes ≡ [] → NamesStand (world port.origin port.front) call → ArmsOwn (fiber_of (carry_of body)) call
+    → NumbersFit port.origin port.front (fiber_of (carry_of body)) call → MayMake port.origin port.front (fiber_of (carry_of body)) call
+may_make {port} {body} {call} up free names own numbers = record {
+  allowed = record {
+    caller = up.holds.acts;
+    clock = λ clock. absurd (up.fiber clock);
+    duties = allowed_free (owed_of (world port.origin port.front) (fiber_of (carry_of body))) call (sym up.holds.owes ∙ free);
+    names = names;
+    own = own;
+  };
+  numbers = numbers;
+}
+
 pub can_make : {port : Sight (Option Tree)} {body : Shown} {call : Call} → IsUp port body → body.owes ≡ [] → 0 < body.room → NamesStand (world port.origin port.front) call
     → ArmsOwn (fiber_of (carry_of body)) call → NumbersFit port.origin port.front (fiber_of (carry_of body)) call → CanMake port (carry_of body) call
-can_make {port} {body} {call} up free room names own numbers = record {
-  holds = up.holds;
-  may = record {
-    allowed = record {
-      caller = up.holds.acts;
-      clock = λ clock. absurd (up.fiber clock);
-      duties = allowed_free (owed_of (world port.origin port.front) (fiber_of (carry_of body))) call (sym up.holds.owes ∙ free);
-      names = names;
-      own = own;
-    };
-    numbers = numbers;
-  };
-  room = room;
-}
+can_make up free room names own numbers = record { holds = up.holds; may = may_make up free names own numbers; room = room }
 
 -- ---- bodies that are up
 
@@ -73,12 +76,26 @@ leads_gone a b f mine goes leads =
     let there : LeadsTo (record b { birth = a.birth; program = a.program }) f mine = λ tail y d ahead. leads tail y d (goes.turns f tail y d ahead) in
     subst (λ (x : Birth). LeadsTo (record b { birth = x }) f mine) (sym birth) (subst (λ (p : Option Tree). LeadsTo (record b { birth = a.birth; program = p }) f mine) (sym program) there)
 
+-- between two calls nothing is kept for oneself
+pub owns_between : (script : Tree) (f : ℕ) (mine : List Happened) (there : Standing) → IsBetween there → Owns script f mine there
+owns_between script f mine (Within block place way) between = absurd between
+owns_between script f mine _ between = tt
+
+pub between_live : (there : Standing) → IsBetween there → there ≢ Ended
+between_live Ended between is = absurd between
+between_live _ between is = cc
+
+pub owns_same : (a b : Shown) (f : ℕ) (mine : List Happened) → IsSameRest a b → b.program ≡ a.program → Owns (script_in a.program) f mine a.standing → Owns (script_in b.program) f mine b.standing
+owns_same a b f mine rest program owns = rw (program, rest.standing) owns
+
 -- it is up where its fiber's own log leads to it
-up_led : (p : Sight (Option Tree)) (b : Shown) (f : ℕ) → Holds p (carry_of b) → fiber_of (carry_of b) ≡ f → f ≢ 0 → LeadsTo b f (own (log p.front f)) → b.standing ≢ Ended → IsUp p b
-up_led p b f holds mine fiber leads live = record {
+pub up_led : (p : Sight (Option Tree)) (b : Shown) (f : ℕ) → Holds p (carry_of b) → fiber_of (carry_of b) ≡ f → f ≢ 0 → LeadsTo b f (own (log p.front f)) → Owns (script_in b.program) f (own (log p.front f)) b.standing → b.standing ≢ Ended
+    → IsUp p b
+up_led p b f holds mine fiber leads owns live = record {
   holds = holds;
   fiber = subst (λ (n : ℕ). n ≢ 0) (sym mine) fiber;
   leads = subst (λ (n : ℕ). LeadsTo b n (own (log p.front n))) (sym mine) leads;
+  owns = subst (λ (n : ℕ). Owns (script_in b.program) n (own (log p.front n)) b.standing) (sym mine) owns;
   live = live;
 }
 
@@ -86,7 +103,7 @@ up_led p b f holds mine fiber leads live = record {
 pub free_gone : {a b : Shown} → Goes a b → a.owes ≡ [] → b.owes ≡ []
 free_gone goes free = ap (λ (c : Carry (Option Tree)). c.owes) goes.same ∙ free
 
-still_live : (a b : Shown) → IsSameRest a b → a.standing ≢ Ended → b.standing ≢ Ended
+pub still_live : (a b : Shown) → IsSameRest a b → a.standing ≢ Ended → b.standing ≢ Ended
 still_live a b rest live ended = live (sym rest.standing ∙ ended)
 
 -- ---- parts of a turn
@@ -122,19 +139,22 @@ holds_noted {S} p a b holds notes =
     }
 
 module _ {p : Sight (Option Tree)} {a b : Shown} {told : Option (List ℕ)} where
-  on_noted : IsUp p a → Notes (carry_of a) (carry_of b) [] → LeadsTo b (fiber_of (carry_of a)) (own (log p.front (fiber_of (carry_of a)))) → b.standing ≢ Ended → IsOn p p a b told told
-  on_noted up notes leads live =
+  on_noted : IsUp p a → Notes (carry_of a) (carry_of b) [] → LeadsTo b (fiber_of (carry_of a)) (own (log p.front (fiber_of (carry_of a))))
+      → Owns (script_in b.program) (fiber_of (carry_of a)) (own (log p.front (fiber_of (carry_of a)))) b.standing → b.standing ≢ Ended → IsOn p p a b told told
+  on_noted up notes leads owns live =
       let holds : Holds p (carry_of b) = holds_noted p (carry_of a) (carry_of b) up.holds notes in
       let none : Went p p (carry_of a) (carry_of a) told told = went_none p (carry_of a) told up.holds in
       record {
         went = record { going = none.going; grew = none.grew; on = none.on; line = none.line; holds = holds; number = notes.number };
-        up = up_led p b (fiber_of (carry_of a)) holds (same_number a b notes.number) up.fiber leads live;
+        up = up_led p b (fiber_of (carry_of a)) holds (same_number a b notes.number) up.fiber leads owns live;
       }
 
   -- room was made, or wanted
   pub on_reserved : IsUp p a → Notes (carry_of a) (carry_of b) [] → IsSameRest a b → IsOn p p a b told told
   on_reserved up notes rest =
-      on_noted up notes (leads_same a b (fiber_of (carry_of a)) (own (log p.front (fiber_of (carry_of a)))) rest notes.birth notes.share up.leads) (still_live a b rest up.live)
+      let f = fiber_of (carry_of a) in
+      let mine = own (log p.front f) in
+      on_noted up notes (leads_same a b f mine rest notes.birth notes.share up.leads) (owns_same a b f mine rest notes.share up.owns) (still_live a b rest up.live)
 
   -- the body went on without a call
   pub on_gone : IsUp p a → Goes a b → IsOn p p a b told told
@@ -147,7 +167,8 @@ module _ {p : Sight (Option Tree)} {a b : Shown} {told : Option (List ℕ)} wher
         owes = ap (λ (c : Carry (Option Tree)). c.owes) goes.same;
         share = ap (λ (c : Carry (Option Tree)). c.share) goes.same;
       } in
-      on_noted up notes (leads_gone a b f (own (log p.front f)) goes up.leads) goes.live
+      let mine = own (log p.front f) in
+      on_noted up notes (leads_gone a b f mine goes up.leads) (owns_between (script_in b.program) f mine b.standing goes.between) (between_live b.standing goes.between)
 
 module _ {p q : Sight (Option Tree)} {a b : Shown} {told : Option (List ℕ)} where
   -- a call was refused
@@ -158,7 +179,8 @@ module _ {p q : Sight (Option Tree)} {a b : Shown} {told : Option (List ℕ)} wh
       let leads = leads_same a b f (own (log p.front f)) rest spared.same.birth spared.same.share up.leads in
       record {
         went = went_spared p q (carry_of a) (carry_of b) told spared;
-        up = up_led q b f spared.holds (same_number a b spared.same.number) up.fiber (subst (λ (hs : List Happened). LeadsTo b f (own hs)) (sym logs) leads) (still_live a b rest up.live);
+        up = up_led q b f spared.holds (same_number a b spared.same.number) up.fiber (subst (λ (hs : List Happened). LeadsTo b f (own hs)) (sym logs) leads)
+            (subst (λ (hs : List Happened). Owns (script_in b.program) f (own hs) b.standing) (sym logs) (owns_same a b f (own (log p.front f)) rest spared.same.share up.owns)) (still_live a b rest up.live);
       }
 
   pub on_refused : (fault : PortFault) → IsUp p a → Refuses fault p q (carry_of a) (carry_of b) → IsSameRest a b → IsOn p q a b told told
@@ -166,13 +188,14 @@ module _ {p q : Sight (Option Tree)} {a b : Shown} {told : Option (List ℕ)} wh
 
 -- a call was made, and its log leads the body on
 pub on_lent : (p q : Sight (Option Tree)) (a d : Shown) (before now : Option (List ℕ)) (h : Happened) → IsUp p a → Lent p q (carry_of a) (carry_of d) h → h.entry.fiber ≡ fiber_of (carry_of a) → is_turn h.entry.call ≡ false → h.owing ≡ false → GoesOn h
-    → Adds before now (readied (h ∷ [])) → LeadsTo d (fiber_of (carry_of a)) (own (log p.front (fiber_of (carry_of a))) ++ h ∷ []) → d.standing ≢ Ended → IsOn p q a d before now
-on_lent p q a d before now h up lent mine within free on line leads live =
+    → Adds before now (readied (h ∷ [])) → LeadsTo d (fiber_of (carry_of a)) (own (log p.front (fiber_of (carry_of a))) ++ h ∷ [])
+    → Owns (script_in d.program) (fiber_of (carry_of a)) (own (log p.front (fiber_of (carry_of a))) ++ h ∷ []) d.standing → d.standing ≢ Ended → IsOn p q a d before now
+on_lent p q a d before now h up lent mine within free on line leads owns live =
     let f = fiber_of (carry_of a) in
     let logs : own (log q.front f) ≡ own (log p.front f) ++ h ∷ [] = ap own (grew_made p q f h lent.made mine within).log ∙ own-push (log p.front f) h free in
     record {
       went = went_lent p q (carry_of a) (carry_of d) before now h lent mine within on line;
-      up = up_led q d f lent.holds (same_number a d lent.number) up.fiber (subst (LeadsTo d f) (sym logs) leads) live;
+      up = up_led q d f lent.holds (same_number a d lent.number) up.fiber (subst (LeadsTo d f) (sym logs) leads) (subst (λ (xs : List Happened). Owns (script_in d.program) f xs d.standing) (sym logs) owns) live;
     }
 
 -- what a fiber owed was fulfilled: its own log is as before, and leads where it led
@@ -183,7 +206,8 @@ on_discharged {p} {q} {a} {d} up done same rest =
     record {
       went = done.went;
       up = up_led q d f done.went.holds (same_number a d done.went.number) up.fiber
-          (subst (LeadsTo d f) (sym same) (leads_same a d f (own (log p.front f)) rest done.birth done.share up.leads)) (still_live a d rest up.live);
+          (subst (LeadsTo d f) (sym same) (leads_same a d f (own (log p.front f)) rest done.birth done.share up.leads))
+          (subst (λ (xs : List Happened). Owns (script_in d.program) f xs d.standing) (sym same) (owns_same a d f (own (log p.front f)) rest done.share up.owns)) (still_live a d rest up.live);
     }
 
 -- a fault behind a part in which nobody was in the way

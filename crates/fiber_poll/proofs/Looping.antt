@@ -64,5 +64,6 @@ up_fit {port} {body} start holds fiber fits =
       holds = holds;
       fiber = fiber;
       leads = fits.stands f mine;
+      owns = fits.owns f mine;
       live = λ ended. not_ended port f (starts_tied port.origin.world start) holds.legal holds.acts fiber (fits.over f mine ended);
     }

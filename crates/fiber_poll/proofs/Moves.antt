@@ -1,5 +1,5 @@
 -- Statements that come to their end at once, and rounds of a loop: what each makes of where a body stands.
-use Rattle.std.proofs.Common.{◌≡◌, ◌≢◌, ℕ, ◌+◌, ◌-◌, ◌^◌, ◌<◌, ◌≤◌, nat_lt, true, Option, Some, None, List, [], ◌∷◌, ◌++◌, length, map, slice_get, refl, sym, ap, subst, ◌∙◌, arith}
+use Rattle.std.proofs.Common.{◌≡◌, ℕ, ◌+◌, ◌-◌, ◌^◌, ◌<◌, ◌≤◌, nat_lt, true, Option, Some, None, List, [], ◌∷◌, ◌++◌, length, map, slice_get, refl, sym, ap, subst, ◌∙◌, arith}
 use Rattle.std.specs.Prelude.{IfSome}
 use Rattle.std.proofs.lemmas.Bool.Decides.{nat_tests}
 use Rattle.std.proofs.lemmas.Option.{slice_get_within}
@@ -14,9 +14,9 @@ use Rattle.fiber_body.specs.declared.standing.Exit.TheVariants.{Next}
 use Rattle.fiber_body.specs.declared.standing.Frame.{Frame}
 use Rattle.fiber_body.specs.declared.standing.Frame.TheVariants.{Repeats, Rest}
 use Rattle.fiber_body.specs.declared.standing.Standing.{Standing}
-use Rattle.fiber_body.specs.declared.standing.Standing.TheVariants.{At, Ended}
+use Rattle.fiber_body.specs.declared.standing.Standing.TheVariants.{At}
 use Rattle.fiber_body.specs.Around.{Outer, Turns, around_of, at_stmt, out, outer_of, place_of, rest, within, work}
-use Rattle.fiber_body.specs.Context.{Context, Setting, block_at, stepped}
+use Rattle.fiber_body.specs.Context.{Context, Setting, block_at, numbering, stepped}
 use Rattle.fiber_body.specs.Fits.{setting_of}
 use Rattle.fiber_body.specs.Framing.{begins_ahead, closes_ahead, end_ahead, ends_ahead, enters_ahead, passes_ahead, rest_ahead}
 use Rattle.fiber_body.specs.Phases.{branches, repeating}
@@ -26,7 +26,7 @@ use Rattle.fiber_body.specs.Statements.{Effect, begins, or_first, result}
 use Rattle.fiber_body.specs.Tables.{encloses, ends_by, ends_text, repeats, settles}
 use Rattle.fiber_body.specs.Texts.{script_in}
 use Rattle.fiber_poll.specs.declared.spot.Spot.{Spot}
-use Rattle.fiber_poll.specs.Moving.{CostsStep, EndsAtOnce, Goes, IsBefore, WentOn, behind_at, chosen}
+use Rattle.fiber_poll.specs.Moving.{CostsStep, EndsAtOnce, Goes, IsBefore, IsBetween, WentOn, behind_at, chosen}
 
 -- what is around these frames, within a text
 abbrev pub framed : List Frame → List Outer
@@ -38,16 +38,16 @@ stands_at a there is = ap (λ (st : Standing). record a { standing = st }) is
 
 -- ---- moves, one after the other
 
-pub goes_none : (a : Shown) → a.standing ≢ Ended → Goes a a
-goes_none a live = record { same = refl; turns = λ f tail y d ahead. ahead; live = live }
+pub goes_none : (a : Shown) → IsBetween a.standing → Goes a a
+goes_none a between = record { same = refl; turns = λ f tail y d ahead. ahead; between = between }
 
 pub goes_trans : (a b c : Shown) → Goes a b → Goes b c → Goes a c
 goes_trans a b c one two = record {
   same = two.same ∙ one.same;
   turns = λ f tail y d ahead. one.turns f tail y d
-      (subst (λ (q : Option Tree). Turns (record { fiber = f; script = script_in q }) (place_of b.standing) (around_of b.standing b.frames) b.context (place_of c.standing) (around_of c.standing c.frames) c.context)
+      (subst (λ (q : Option Tree). Turns (record { fiber = f; script = script_in q }) (place_of b.context b.standing) (around_of b.standing b.frames) b.context (place_of c.context c.standing) (around_of c.standing c.frames) c.context)
       (ap (λ (c : Carry (Option Tree)). c.share) one.same) (two.turns f) tail y d ahead);
-  live = two.live;
+  between = two.between;
 }
 
 -- ---- a statement at its place
@@ -58,42 +58,42 @@ module _ (s : Setting) (spot : Spot) (frames : List Frame) where
 
   -- it begins with a step
   pub costly : (one : Stmt) (c : Context) → CostsStep one → IsThere one → 0 < c.steps
-      → Turns s (at_stmt spot.block spot.place) (framed frames) c (within (begins (stepped c) one)) (rest spot.block (spot.place + 1) ∷ framed frames) (stepped c)
+      → Turns s (at_stmt spot.block spot.place) (framed frames) c (within (begins (numbering s.script.decls) (stepped c) one)) (rest spot.block (spot.place + 1) ∷ framed frames) (stepped c)
   costly (stmt.Loop block) c costs there some = absurd costs
   costly one c costs there some = begins_ahead s one spot.block spot.place (framed frames) c (at_place (block_at s.script.blocks spot.block) spot.place one there) some
 
   -- it has ended
-  pub behind : (x : Exit) (c : Context) → Turns s (out x) (rest spot.block (spot.place + 1) ∷ framed frames) c (place_of (behind_at spot x)) (around_of (behind_at spot x) frames) c
+  pub behind : (x : Exit) (c : Context) → Turns s (out x) (rest spot.block (spot.place + 1) ∷ framed frames) c (place_of c (behind_at spot x)) (around_of (behind_at spot x) frames) c
   behind Next c = rest_ahead s spot.block (spot.place + 1) (framed frames) c
   behind x c = passes_ahead s spot.block (spot.place + 1) (framed frames) x c (λ q. cc)
 
-pub behind_live : (spot : Spot) (x : Exit) → behind_at spot x ≢ Ended
-behind_live spot Next is = cc
-behind_live spot x is = cc
+pub behind_between : (spot : Spot) (x : Exit) → IsBetween (behind_at spot x)
+behind_between spot Next = tt
+behind_between spot x = tt
 
 -- a body that stands there goes where each fiber turns to
-pub goes_by : {a b : Shown} (there : Standing) → a.standing ≡ there → carry_of b ≡ carry_of a → b.standing ≢ Ended
-    → ((f : ℕ) → Turns (setting_of a f) (place_of there) (around_of there a.frames) a.context (place_of b.standing) (around_of b.standing b.frames) b.context) → Goes a b
-goes_by {a} {b} there is same live turns = subst (λ (x : Shown). Goes x b) (sym (stands_at a there is)) (record { same = same; turns = turns; live = live })
+pub goes_by : {a b : Shown} (there : Standing) → a.standing ≡ there → carry_of b ≡ carry_of a → IsBetween b.standing
+    → ((f : ℕ) → Turns (setting_of a f) (place_of a.context there) (around_of there a.frames) a.context (place_of b.context b.standing) (around_of b.standing b.frames) b.context) → Goes a b
+goes_by {a} {b} there is same between turns = subst (λ (x : Shown). Goes x b) (sym (stands_at a there is)) (record { same = same; turns = turns; between = between })
 
 -- the same of one that stands before a statement, which begins with a step
-pub begun_goes : {a b : Shown} {spot : Spot} {one : Stmt} → IsBefore a spot one → CostsStep one → carry_of b ≡ carry_of a → b.standing ≢ Ended
-    → ((f : ℕ) → Turns (setting_of a f) (within (begins (stepped a.context) one)) (rest spot.block (spot.place + 1) ∷ framed a.frames) (stepped a.context) (place_of b.standing) (around_of b.standing b.frames) b.context)
+pub begun_goes : {a b : Shown} {spot : Spot} {one : Stmt} → IsBefore a spot one → CostsStep one → carry_of b ≡ carry_of a → IsBetween b.standing
+    → ((f : ℕ) → Turns (setting_of a f) (within (begins (numbering (script_in a.program).decls) (stepped a.context) one)) (rest spot.block (spot.place + 1) ∷ framed a.frames) (stepped a.context) (place_of b.context b.standing) (around_of b.standing b.frames) b.context)
     → Goes a b
-begun_goes {a} {spot = spot} {one = one} before costs same live turns = goes_by (At spot.block spot.place) before.here.at same live
+begun_goes {a} {spot = spot} {one = one} before costs same between turns = goes_by (At spot.block spot.place) before.here.at same between
     (λ f tail y e ahead. costly (setting_of a f) spot a.frames one a.context costs before.here.is before.steps tail y e (turns f tail y e ahead))
 
 -- and comes to its end at once
-pub ends_goes : {a : Shown} {spot : Spot} {one : Stmt} (x : Exit) (b : Shown) → IsBefore a spot one → CostsStep one → carry_of b ≡ carry_of a → settles (stepped a.context) (begins (stepped a.context) one) ≡ Some (ends_by x b.context)
+pub ends_goes : {a : Shown} {spot : Spot} {one : Stmt} (x : Exit) (b : Shown) → IsBefore a spot one → CostsStep one → carry_of b ≡ carry_of a → settles (stepped a.context) (begins (numbering (script_in a.program).decls) (stepped a.context) one) ≡ Some (ends_by x b.context)
     → Goes a (record b { standing = behind_at spot x; frames = a.frames })
-ends_goes {a} {spot} {one} x b before costs same row = begun_goes before costs same (behind_live spot x) (λ f tail y e ahead. let s = setting_of a f in
+ends_goes {a} {spot} {one} x b before costs same row = begun_goes before costs same (behind_between spot x) (λ f tail y e ahead. let s = setting_of a f in
     ends_ahead s (rest spot.block (spot.place + 1) ∷ framed a.frames) row tail y e (behind s spot a.frames x b.context tail y e ahead))
 
 pub at_once_goes : (a b : Shown) (spot : Spot) (n : ℕ) (one : Stmt) (x : Exit) → IsBefore (stood a (At spot.block spot.place) n) spot one → EndsAtOnce a b one x
     → Goes (stood a (At spot.block spot.place) n) (stood b (behind_at spot x) (n - 1))
 at_once_goes a b spot n one x before ends =
     subst (λ (z : Shown). Goes (stood a (At spot.block spot.place) n) (stood z (behind_at spot x) (n - 1))) (sym ends.is)
-    (ends_goes x (record a { context = record a.context { registers = ends.registers; cells = ends.cells; steps = n - 1 } }) before ends.costs refl (ends.row (n - 1)))
+    (ends_goes x (record a { context = record a.context { registers = ends.registers; cells = ends.cells; steps = n - 1 } }) before ends.costs refl (ends.row (numbering (script_in a.program).decls) (n - 1)))
 
 -- ---- which statements do
 
@@ -110,7 +110,7 @@ module _ (a b : Shown) (one : Stmt) where
     cells = e.cells;
     is = some.1;
     costs = costs_step a.context.registers a.context.cells one e is;
-    row = λ n. let c : Context = record a.context { steps = n } in ap (λ (r : Option Effect). settles c (or_first c one r)) is;
+    row = λ numbers n. let c : Context = record a.context { steps = n } in ap (λ (r : Option Effect). settles c (or_first numbers c one r)) is;
   })
 
   pub unchanged : (r : Option Effect) (answer : Option Exit) → IsChanged r a b answer → answer ≡ None → (b ≡ a) × (r ≡ None)
@@ -124,7 +124,7 @@ not_chosen a left right test then other none = record {
   cells = a.context.cells;
   is = refl;
   costs = tt;
-  row = λ n. ap (λ (block : Option ℕ). settles (record a.context { steps = n }) (branches block)) none;
+  row = λ numbers n. ap (λ (block : Option ℕ). settles (record a.context { steps = n }) (branches block)) none;
 }
 
 -- ---- rounds
@@ -151,7 +151,7 @@ round_goes a block place n again past first some =
           subst (λ (frames : List Frame). Turns s (at_stmt block place) (framed frames) c (at_stmt again 0) (framed frames) (stepped c)) (sym found.1)
           (λ tail y e ahead. end_ahead s block place (framed (Repeats again ∷ found.0)) c (past_end (block_at s.script.blocks block) place past) tail y e
           (closes_ahead s (repeats again) (framed found.0) Next c tail y e (enters_ahead s (framed found.0) (round_row again c some) tail y e ahead)));
-      live = λ q. cc;
+      between = tt;
     }
 
 -- the block has come to its end, and the one around it goes on
@@ -165,7 +165,7 @@ rest_goes_on a block place n outer_block next outer past is =
           subst (λ (frames : List Frame). Turns s (at_stmt block place) (framed frames) c (at_stmt outer_block next) (framed outer) c) (sym is)
           (λ tail y e ahead. end_ahead s block place (framed (Rest outer_block next ∷ outer)) c (past_end (block_at s.script.blocks block) place past) tail y e
           (rest_ahead s outer_block next (framed outer) c tail y e ahead));
-      live = λ q. cc;
+      between = tt;
     }
 
 -- the frame that is taken away is the innermost one

@@ -1,5 +1,11 @@
 -- How a body moves between two entries of its fiber. Only private contracts cite these words.
-use Rattle.std.specs.Prelude.{◌≡◌, ◌≢◌, ℕ, ◌+◌, ◌*◌, ◌-◌, ◌<◌, ◌^◌, nat_lt, cond, Bool, true, false, Option, Some, None, List, [], ◌∷◌, ◌++◌, length, slice_get, ⊤}
+use Rattle.std.specs.Prelude.{◌≡◌, ℕ, ◌+◌, ◌*◌, ◌-◌, ◌<◌, ◌^◌, nat_lt, cond, Bool, true, false, Option, Some, None, List, [], ◌∷◌, ◌++◌, length, slice_get, ⊤}
+use Rattle.pic_machine.specs.declared.entry.Reply.{Reply}
+use Rattle.pic_machine.specs.declared.entry.Reply.TheVariants.{Made, Full}
+use Rattle.pic_machine.specs.declared.state.TrigState.{TrigState}
+use Rattle.pic_machine.specs.declared.state.TrigState.TheVariants.{Initial, Awaiting, Signalled}
+use Rattle.fiber_await.specs.declared.ahead.Ahead.{Ahead}
+use Rattle.fiber_await.specs.declared.ahead.Ahead.TheVariants.{Go, Cancelled}
 use Rattle.script_tree.specs.declared.program.Operand.{Operand}
 use Rattle.script_tree.specs.declared.program.Stmt.{Stmt}
 use Rattle.script_tree.specs.declared.program.Stmt.TheVariants as stmt
@@ -10,13 +16,15 @@ use Rattle.fiber_body.specs.declared.standing.Exit.TheVariants.{Next, Raised, Br
 use Rattle.fiber_body.specs.declared.standing.Frame.{Frame}
 use Rattle.fiber_body.specs.declared.standing.Frame.TheVariants.{Rest, Repeats, Catches}
 use Rattle.fiber_body.specs.declared.standing.Standing.{Standing}
-use Rattle.fiber_body.specs.declared.standing.Standing.TheVariants.{At, Out, Ended}
+use Rattle.fiber_body.specs.declared.standing.Standing.TheVariants.{At, Within, Out, Ended}
+use Rattle.fiber_body.specs.declared.under_way.UnderWay.{UnderWay}
+use Rattle.fiber_body.specs.declared.under_way.UnderWay.TheVariants.{Places, Awaits, Awake, Attaches}
 use Rattle.fiber_body.specs.Around.{Turns, around_of, place_of}
-use Rattle.fiber_body.specs.Context.{Context, block_at, holds, value, with_register}
+use Rattle.fiber_body.specs.Context.{Context, Numbering, block_at, holds, limit_met, taken_already, value, with_register}
 use Rattle.fiber_body.specs.Fits.{setting_of}
-use Rattle.fiber_body.specs.Phases.{Phase, ended}
+use Rattle.fiber_body.specs.Phases.{Phase, calls, ended}
 use Rattle.fiber_body.specs.Shown.{Shown, carry_of, stood}
-use Rattle.fiber_body.specs.Statements.{begins, result}
+use Rattle.fiber_body.specs.Statements.{begins, first, result}
 use Rattle.fiber_body.specs.Tables.{ends_by, goes_into, settles}
 use Rattle.fiber_body.specs.Texts.{script_in}
 use Rattle.fiber_poll.specs.declared.spot.AtOnce.{AtOnce}
@@ -25,9 +33,18 @@ use Rattle.fiber_poll.specs.declared.spot.Spot.{Spot}
 
 -- ---- how much a turn may still do
 
+-- a statement that is under way comes nearer to its end with each of its calls
+abbrev pub weight_of : UnderWay → ℕ
+weight_of (Places trigger) = 5
+weight_of (Awaits parts) = 4
+weight_of (Awake trigger) = 3
+weight_of (Attaches register comp trigger None) = 4
+weight_of (Attaches register comp trigger (Some place)) = 3
+
 -- each statement and each round costs a step, each block that is left is one frame fewer, and a step enters two
 -- frames at most
 abbrev pub weight_at : Standing → ℕ
+weight_at (Within block place way) = weight_of way
 weight_at (At block place) = 2
 weight_at (Out exit) = 1
 weight_at _ = 0
@@ -37,12 +54,18 @@ weight body = weight_at body.standing + (5 * body.context.steps + 2 * length bod
 
 -- ---- moves without an entry
 
--- whatever may come of where the body stands now, may come of where it stood; its fiber goes on
+-- the body stands between two statements, at the exit of a block, or where its fiber is to end
+abbrev pub IsBetween : Standing → Type 0
+IsBetween (Within block place way) = ⊥
+IsBetween Ended = ⊥
+IsBetween _ = ⊤
+
+-- whatever may come of where the body stands now, which is between two calls, may come of where it stood
 pub record Goes (old new : Shown) : Type 0 where
   pub same : carry_of new ≡ carry_of old
-  pub turns : (f : ℕ) → Turns (setting_of old f) (place_of old.standing) (around_of old.standing old.frames) old.context
-      (place_of new.standing) (around_of new.standing new.frames) new.context
-  pub live : new.standing ≢ Ended
+  pub turns : (f : ℕ) → Turns (setting_of old f) (place_of old.context old.standing) (around_of old.standing old.frames) old.context
+      (place_of new.context new.standing) (around_of new.standing new.frames) new.context
+  pub between : IsBetween new.standing
 
 -- ---- at a statement
 
@@ -74,7 +97,7 @@ pub record EndsAtOnce (old new : Shown) (one : Stmt) (exit : Exit) : Type 0 wher
   pub cells : List ℕ
   pub is : new ≡ record old { context = record old.context { registers = registers; cells = cells } }
   pub costs : CostsStep one
-  pub row : (n : ℕ) → settles (record old.context { steps = n }) (begins (record old.context { steps = n }) one)
+  pub row : (numbers : Numbering) (n : ℕ) → settles (record old.context { steps = n }) (begins numbers (record old.context { steps = n }) one)
       ≡ Some (ends_by exit (record old.context { registers = registers; cells = cells; steps = n }))
 
 -- the block that a test chooses, if there is one
@@ -84,7 +107,7 @@ chosen c left test right then other = cond (holds test (value c left) (value c r
 -- the statement is a test that chooses this block, however many steps are left
 pub record ChoosesBlock (c : Context) (one : Stmt) (block : ℕ) : Type 0 where
   pub costs : CostsStep one
-  pub row : (n : ℕ) → settles (record c { steps = n }) (begins (record c { steps = n }) one) ≡ Some (goes_into block (record c { steps = n }))
+  pub row : (numbers : Numbering) (n : ℕ) → settles (record c { steps = n }) (begins numbers (record c { steps = n }) one) ≡ Some (goes_into block (record c { steps = n }))
 
 abbrev pub IsNoTest : Stmt → Type 0
 IsNoTest (stmt.If left test right then other) = ⊥
@@ -94,6 +117,12 @@ IsNoTest _ = ⊤
 pub record IsWaiting (c : Context) (one : Stmt) : Type 0 where
   pub not_done : result c.registers c.cells one ≡ None
   pub no_test : IsNoTest one
+
+-- the statement has a call, or several
+abbrev pub HasCall : Context → Stmt → Type 0
+HasCall c (stmt.Await trigger) = ⊤
+HasCall c (stmt.Attach register comp trigger) = ⊤
+HasCall c one = (numbers : Numbering) → first numbers c one ≡ calls one
 
 -- what comes of the statement at once
 abbrev pub IsAtOnce : Shown → Shown → Stmt → AtOnce → Type 0
@@ -138,6 +167,40 @@ passed body (Repeats block) Broke = stood body (Out Next) body.context.steps
 passed body (Catches register handler) (Raised code) =
     stood (record body { context = with_register body.context register code }) (At handler 0) body.context.steps
 passed body frame exit = stood body (Out exit) body.context.steps
+
+-- ---- statements that look at a trigger first
+
+-- how a wait begins, where the fiber is permitted to be told of a cancellation, or isn't
+abbrev pub first_of_wait : Bool → ℕ → UnderWay
+first_of_wait true trigger = Places trigger
+first_of_wait false trigger = Awaits (record { trigger = Some trigger; place = None; second = None; at = 2 })
+
+-- where it goes on once the trigger was seen so
+abbrev pub seen_by_wait : Spot → Bool → ℕ → TrigState → Standing
+seen_by_wait spot permitted trigger Initial = Within spot.block spot.place (first_of_wait permitted trigger)
+seen_by_wait spot permitted trigger Signalled = behind_at spot Next
+seen_by_wait spot permitted trigger (Awaiting action) = behind_at spot (Raised taken_already)
+
+-- where it goes on once its place was made, if it was
+abbrev pub placed_for_wait : Spot → ℕ → Option ℕ → Standing
+placed_for_wait spot trigger (Some place) =
+    Within spot.block spot.place (Awaits (record { trigger = Some trigger; place = Some place; second = None; at = 2 }))
+placed_for_wait spot trigger None = behind_at spot (Raised limit_met)
+
+-- the same of an attachment
+abbrev pub placed_for_attachment : Spot → ℕ → ℕ → ℕ → Option ℕ → Standing
+placed_for_attachment spot register comp trigger (Some place) = Within spot.block spot.place (Attaches register comp trigger (Some place))
+placed_for_attachment spot register comp trigger None = behind_at spot (Raised limit_met)
+
+-- how a wait ends
+abbrev pub exit_of : Ahead → Exit
+exit_of Go = Next
+exit_of (Cancelled code) = Raised code
+
+-- the reply that made a place, or that says that there is no room for one
+abbrev pub placed : Option ℕ → Reply
+placed (Some place) = Made place
+placed None = Full
 
 -- ---- replies
 

@@ -1,5 +1,5 @@
 -- What stands while a turn of a script's fiber is under way. Only private contracts cite these words.
-use Rattle.std.specs.Prelude.{◌≡◌, ◌≢◌, ℕ, ◌≤◌, ◌<◌, IsTrue, Option, Some, None, List, [], ◌∷◌, length, ⊤}
+use Rattle.std.specs.Prelude.{◌≡◌, ◌≢◌, ℕ, ◌≤◌, ◌<◌, IsTrue, Option, Some, None, List, [], ◌∷◌, ⊤}
 use Rattle.pic_machine.specs.declared.entry.Call.{Call}
 use Rattle.pic_machine.specs.declared.entry.Call.TheVariants as call
 use Rattle.pic_machine.specs.declared.entry.Reply.{Reply}
@@ -12,28 +12,34 @@ use Rattle.pic_machine.specs.Log.{log, own}
 use Rattle.pic_machine.specs.Order.{readied}
 use Rattle.pic_machine.specs.Sight.{Holds, Sight, fiber_of}
 use Rattle.pic_machine.specs.Turning.{Adds, Went}
+use Rattle.pic_machine.specs.Waits.{arming, waiting_at}
 use Rattle.script_tree.specs.declared.program.Stmt.{Stmt}
 use Rattle.script_tree.specs.declared.program.Stmt.TheVariants as stmt
 use Rattle.script_tree.specs.declared.thing.Sort.TheVariants as sort
 use Rattle.script_tree.specs.Tree.{Tree}
 use Rattle.script_tree.specs.WellFormed.{IsFiberText, StmtFits}
-use Rattle.fiber_body.specs.declared.standing.Standing.TheVariants.{Ending, Ended}
+use Rattle.fiber_body.specs.declared.standing.Standing.TheVariants.{Within, Ending, Ended}
+use Rattle.fiber_body.specs.declared.under_way.UnderWay.TheVariants.{Awaits}
 use Rattle.fiber_body.specs.Context.{count_of}
 use Rattle.fiber_body.specs.Fits.{LeadsTo}
+use Rattle.fiber_body.specs.Owns.{Owns}
 use Rattle.fiber_body.specs.Segments.{happens}
 use Rattle.fiber_body.specs.Shown.{IsSameRest, Shown, carry_of}
 use Rattle.fiber_body.specs.Statements.{born}
+use Rattle.fiber_body.specs.Texts.{script_in}
+use Rattle.fiber_body.specs.Triggers.{under}
 use Rattle.fiber_poll.specs.declared.spot.Last.{Last}
-use Rattle.fiber_poll.specs.declared.spot.Last.TheVariants.{Yield, End}
+use Rattle.fiber_poll.specs.declared.spot.Last.TheVariants.{Yield, Park, End}
 use Rattle.fiber_poll.specs.Built.{is_built_stmt}
 use Rattle.fiber_poll.specs.Moving.{IsBefore, weight}
 
 -- the port has the body of a fiber out, and the fiber's own log leads to where the body stands, which isn't behind
--- its end
+-- its end, and made what the body keeps there for itself
 pub record IsUp (port : Sight (Option Tree)) (body : Shown) : Type 0 where
   pub holds : Holds port (carry_of body)
   pub fiber : fiber_of (carry_of body) ≢ 0
   pub leads : LeadsTo body (fiber_of (carry_of body)) (own (log port.front (fiber_of (carry_of body))))
+  pub owns : Owns (script_in body.program) (fiber_of (carry_of body)) (own (log port.front (fiber_of (carry_of body)))) body.standing
   pub live : body.standing ≢ Ended
 
 -- a part of the turn went, and the body is up still
@@ -41,15 +47,16 @@ pub record IsOn (old new : Sight (Option Tree)) (body later : Shown) (before now
   pub went : Went old new (carry_of body) (carry_of later) before now
   pub up : IsUp new later
 
--- what ends a turn: the body stands before a yield, or is to end
+-- what ends a turn: the body stands before a yield, or where its trigger is to be armed, or is to end
 abbrev pub IsLast : Shown → Last → Type 0
 IsLast body (Yield spot) = IsBefore body spot stmt.Yield
+IsLast body (Park spot parts) = (body.standing ≡ Within spot.block spot.place (Awaits parts)) × (waiting_at (under body.context) parts.at parts ≡ arming)
 IsLast body (End outcome) = body.standing ≡ Ending outcome
 
--- the turn goes on, with less to do, or its last call is next
+-- the turn goes on, with less to do, or its last call is next, with no more to do
 abbrev pub IsStep : Shown → Shown → Option Last → Type 0
 IsStep old new None = weight new < weight old
-IsStep old new (Some last) = IsLast new last
+IsStep old new (Some last) = IsLast new last × (weight new ≤ weight old)
 
 -- the statement is one of a program that is run: it is built, and keeps to what each statement keeps to
 pub record CanRun (script : Tree) (one : Stmt) : Type 0 where

@@ -1,5 +1,5 @@
 -- How often a fiber of a script may yield: each time by a statement, for which it has a step.
-use Rattle.std.proofs.Common.{◌≡◌, ◌≢◌, ℕ, ◌+◌, ◌-◌, ◌≤◌, nat_lt, Bool, true, false, cond, Option, Some, None, List, ◌∷◌, refl, sym, ap, subst, arith}
+use Rattle.std.proofs.Common.{◌≡◌, ◌≢◌, ℕ, ◌+◌, ◌-◌, ◌≤◌, nat_lt, Bool, true, false, cond, slice_get, Option, Some, None, List, ◌∷◌, refl, sym, ap, subst, arith}
 use Rattle.pic_base.specs.Steps.{most_steps}
 use Rattle.pic_machine.specs.declared.entry.Call.{Call}
 use Rattle.pic_machine.specs.declared.entry.Call.TheVariants.{End, Yield}
@@ -8,22 +8,27 @@ use Rattle.pic_machine.specs.declared.entry.Reply.TheVariants.{Completed, Full, 
 use Rattle.pic_machine.specs.Happened.{Happened}
 use Rattle.pic_machine.specs.Log.{own}
 use Rattle.pic_machine.specs.Order.{yields}
+use Rattle.pic_machine.specs.declared.waits.Standing.{Standing as Under}
+use Rattle.pic_machine.specs.Waits.{Waiting, arming, attaching, checking, over, taken, told, waiting_asks, woken}
+use Rattle.std.specs.Option.{option_map}
+use Rattle.std.specs.Prelude.{⊤}
 use Rattle.pic_machine.proofs.Turnings.{yields-append}
 use Rattle.script_tree.specs.declared.program.Stmt.{Stmt}
 use Rattle.script_tree.specs.declared.program.Stmt.TheVariants as stmt
 use Rattle.fiber_body.specs.declared.standing.Exit.{Exit}
 use Rattle.fiber_body.specs.declared.standing.Exit.TheVariants.{Next, Raised, Spent}
 use Rattle.fiber_body.specs.Around.{around_of, place_of}
-use Rattle.fiber_body.specs.Context.{Context, Setting}
+use Rattle.fiber_body.specs.Context.{Context, Numbering, Setting, comp_in, numbering}
 use Rattle.fiber_body.specs.Fits.{Fits, MayBeOf, setting_of}
 use Rattle.fiber_body.specs.Follows.{context_of}
 use Rattle.fiber_body.specs.Framing.{leads_segment}
-use Rattle.fiber_body.specs.Phases.{Phase, branches, calls, catching, ended, ending, ends, gone, lives, repeating, tries}
+use Rattle.fiber_body.specs.Phases.{Attaching, Awaiting, Phase, answers, attaches, attaches_to, awaits_trigger, branches, calls, catching, ended, ending, ends, finds_no_place, gone, lives, looking, looks, places, placing, repeating, suspending, tries, unplaced}
 use Rattle.fiber_body.specs.Segments.{Acts, CanBegin, Extent, Runs, and_more, and_out, begun, ends_so, goes, happens, leaves_it, makes, stops_inside}
 use Rattle.fiber_body.specs.Shown.{Shown}
-use Rattle.fiber_body.specs.Statements.{begins, born, replied}
+use Rattle.fiber_body.specs.Statements.{begins, born, named, replied}
 use Rattle.fiber_body.specs.Tables.{Settled, Work, asks, catches, closing, encloses, ends_by, ends_text, goes_into, leads, repeats, settles}
 use Rattle.fiber_body.specs.Texts.{block_in}
+use Rattle.fiber_body.specs.Triggers.{attaching_asks, attaching_leads, awaiting_asks, awaiting_leads, under}
 
 -- ---- the steps that are left
 
@@ -42,13 +47,24 @@ abbrev allowance : Phase → ℕ
 allowance (calls one) = 1
 allowance p = 0
 
-begins_within : (c : Context) (one : Stmt) → steps_in (begins c one) c ≤ c.steps
-begins_within c stmt.Break = omega arith
-begins_within c _ = omega arith
+-- a phase yields itself once at most, and doesn't end with more steps
+abbrev IsSmall : Context → Phase → Type 0
+IsSmall c p = (allowance p ≤ 1) × (steps_in p c ≤ c.steps)
 
-begins_once : (c : Context) (one : Stmt) → CanBegin one c → allowance (begins (begun one c) one) + (begun one c).steps ≤ c.steps
-begins_once c (stmt.Loop block) can = omega arith
-begins_once c _ can = omega (arith, can)
+named_small : (c : Context) (number : Option ℕ) (one : Stmt) (phase : ℕ → Phase) → ((n : ℕ) → IsSmall c (phase n)) → IsSmall c (named number one phase)
+named_small c None one phase small = (omega arith, omega arith)
+named_small c (Some n) one phase small = small n
+
+begins_small : (numbers : Numbering) (c : Context) (one : Stmt) → IsSmall c (begins numbers c one)
+begins_small numbers c (stmt.Await t) = named_small c (slice_get numbers.triggers t) (stmt.Await t) (λ n. awaits_trigger n looking) (λ n. (omega arith, omega arith))
+begins_small numbers c (stmt.Attach r comp t) =
+    named_small c (comp_in numbers.comps comp) (stmt.Attach r comp t) (λ k. named (slice_get numbers.triggers t) (stmt.Attach r comp t) (λ n. attaches_to r k n looks))
+    (λ k. named_small c (slice_get numbers.triggers t) (stmt.Attach r comp t) (λ n. attaches_to r k n looks) (λ n. (omega arith, omega arith)))
+begins_small numbers c _ = (omega arith, omega arith)
+
+begins_once : (numbers : Numbering) (c : Context) (one : Stmt) → CanBegin one c → allowance (begins numbers (begun one c) one) + (begun one c).steps ≤ c.steps
+begins_once numbers c (stmt.Loop block) can = omega arith
+begins_once numbers c one can = let small = begins_small numbers (begun one c) one in omega (arith, small.0, can)
 
 replied_within : (c : Context) (one : Stmt) (reply : Reply) → (allowance (replied c one reply) ≡ 0) × (steps_in (replied c one reply) c ≤ c.steps)
 replied_within c (stmt.Return r comp v) (Completed how) = omega arith
@@ -66,7 +82,27 @@ next_within : (b : Bool) (block : ℕ) (c : Context) → IsWithin c.steps (Some 
 next_within true block c = omega arith
 next_within false block c = omega arith
 
+awaiting_within : (c : Context) (t : ℕ) (p : Awaiting) → IsWithin c.steps (settles c (awaits_trigger t p))
+awaiting_within c t (suspending (over woken)) = omega arith
+awaiting_within c t (suspending (over (told code))) = omega arith
+awaiting_within c t (suspending (over taken)) = omega arith
+awaiting_within c t (suspending (attaching place)) = tt
+awaiting_within c t (suspending arming) = tt
+awaiting_within c t (suspending checking) = tt
+awaiting_within c t looking = tt
+awaiting_within c t placing = tt
+awaiting_within c t unplaced = omega arith
+
+attaching_within : (c : Context) (r k t : ℕ) (p : Attaching) → IsWithin c.steps (settles c (attaches_to r k t p))
+attaching_within c r k t (answers n) = omega arith
+attaching_within c r k t finds_no_place = omega arith
+attaching_within c r k t looks = tt
+attaching_within c r k t places = tt
+attaching_within c r k t (attaches place) = tt
+
 rows_within : (c : Context) (p : Phase) → IsWithin (steps_in p c) (settles c p)
+rows_within c (awaits_trigger t p) = awaiting_within c t p
+rows_within c (attaches_to r k t p) = attaching_within c r k t p
 rows_within c (branches None) = omega arith
 rows_within c (branches (Some block)) = omega arith
 rows_within c (repeating block Next) = next_within (nat_lt 0 c.steps) block c
@@ -94,13 +130,54 @@ yields_call : (f : ℕ) (call : Call) (reply : Reply) (c : Context) (xs : List H
 yields_call f Yield reply c xs = omega arith
 yields_call f _ reply c xs = omega arith
 
-entry_within : (s : Setting) (c : Context) (p q : Phase) (call : Call) (reply : Reply) (xs : List Happened) → asks s.script c p ≡ Some call → leads c p reply ≡ Some q
+-- a call that is no yield
+abbrev IsNoYield : Option Call → Type 0
+IsNoYield (Some Yield) = ⊥
+IsNoYield _ = ⊤
+
+yields_no_call : (f : ℕ) (call : Call) (reply : Reply) (c : Context) (xs : List Happened) → IsNoYield (Some call) → yields (happens f call reply (born c call) ∷ xs) ≤ yields xs
+yields_no_call f Yield reply c xs none = absurd none
+yields_no_call f _ reply c xs none = omega arith
+
+waiting_no_yield : (u : Under) (f t : ℕ) (p : Waiting) → IsNoYield (waiting_asks u f t p)
+waiting_no_yield u f t (attaching place) = tt
+waiting_no_yield u f t arming = tt
+waiting_no_yield u f t checking = tt
+waiting_no_yield u f t (over how) = tt
+
+awaiting_no_yield : (u : Under) (f t : ℕ) (p : Awaiting) → IsNoYield (awaiting_asks u f t p)
+awaiting_no_yield u f t looking = tt
+awaiting_no_yield u f t placing = tt
+awaiting_no_yield u f t (suspending p) = waiting_no_yield u f t p
+awaiting_no_yield u f t unplaced = tt
+
+attaching_no_yield : (k t : ℕ) (p : Attaching) → IsNoYield (attaching_asks k t p)
+attaching_no_yield k t looks = tt
+attaching_no_yield k t places = tt
+attaching_no_yield k t (attaches place) = tt
+attaching_no_yield k t (answers n) = tt
+attaching_no_yield k t finds_no_place = tt
+
+-- a phase of a statement under way, to which a reply leads
+mapped_within : {Inner : Type 0} (c : Context) (up : Inner → Phase) → ((x : Inner) → (allowance (up x) ≡ 0) × (steps_in (up x) c ≤ c.steps)) → (o : Option Inner) (q : Phase) → option_map up o ≡ Some q → (allowance q ≡ 0) × (steps_in q c ≤ c.steps)
+mapped_within c up each None q is = absurd cc
+mapped_within c up each (Some x) q is = let same : up x ≡ q = cc in subst (λ (r : Phase). (allowance r ≡ 0) × (steps_in r c ≤ c.steps)) same (each x)
+
+entry_within : (s : Setting) (c : Context) (p q : Phase) (call : Call) (reply : Reply) (xs : List Happened) → asks s c p ≡ Some call → leads c p reply ≡ Some q
     → (allowance q + yields (happens s.fiber call reply (born c call) ∷ xs) ≤ allowance p + yields xs) × (steps_in q c ≤ c.steps)
 entry_within s c (calls one) q call reply xs asked led =
     let same : replied c one reply ≡ q = cc in
     let few = subst (λ (r : Phase). (allowance r ≡ 0) × (steps_in r c ≤ c.steps)) same (replied_within c one reply) in
     let one_more = yields_call s.fiber call reply c xs in
     (omega (arith, few.0, one_more), few.1)
+entry_within s c (awaits_trigger t p) q call reply xs asked led =
+    let none = yields_no_call s.fiber call reply c xs (subst IsNoYield asked (awaiting_no_yield (under c) s.fiber t p)) in
+    let there = mapped_within c (awaits_trigger t) (λ x. (refl, omega arith)) (awaiting_leads (under c) p reply) q led in
+    (omega (arith, none, there.0), there.1)
+entry_within s c (attaches_to r k t p) q call reply xs asked led =
+    let none = yields_no_call s.fiber call reply c xs (subst IsNoYield asked (attaching_no_yield k t p)) in
+    let there = mapped_within c (attaches_to r k t) (λ x. (refl, omega arith)) (attaching_leads p reply) q led in
+    (omega (arith, none, there.0), there.1)
 entry_within s c (ending o ends) q call reply xs asked led =
     let same : ending o gone ≡ q = cc in
     let is : End o ≡ call = cc in
@@ -132,14 +209,14 @@ mutual
   acts_few _ within = omega (arith, within)
 
   runs_few : {s : Setting} {ss : List Stmt} {c d : Context} {xs : List Happened} {y : Extent} → Runs s ss c xs y d → yields xs + d.steps ≤ c.steps
-  runs_few (and_more {one} {c = c} {xs = xs} {ys = ys} can acts runs) =
-      let first = acts_few acts (begins_within (begun one c) one) in
+  runs_few {s} (and_more {one} {c = c} {xs = xs} {ys = ys} can acts runs) =
+      let first = acts_few acts (begins_small (numbering s.script.decls) (begun one c) one).1 in
       let rest = runs_few runs in
-      let once = begins_once c one can in
+      let once = begins_once (numbering s.script.decls) c one can in
       omega (arith, first, rest, once, yields-append xs ys)
-  runs_few (and_out {one} {c = c} can acts apart) =
-      let first = acts_few acts (begins_within (begun one c) one) in
-      let once = begins_once c one can in
+  runs_few {s} (and_out {one} {c = c} can acts apart) =
+      let first = acts_few acts (begins_small (numbering s.script.decls) (begun one c) one).1 in
+      let once = begins_once (numbering s.script.decls) c one can in
       omega (arith, first, once)
   runs_few _ = omega arith
 
@@ -147,7 +224,7 @@ mutual
 
 few_of : (body : Shown) (f : ℕ) (log : List Happened) → MayBeOf body.number f → Fits body log → yields (own log) ≤ most_steps
 few_of body f log mine fits =
-    let there = leads_segment (setting_of body f) (lives (block_in body.program body.birth.text)) (context_of body.birth) (own log) (place_of body.standing) (around_of body.standing body.frames) body.context (fits.stands f mine) in
+    let there = leads_segment (setting_of body f) (lives (block_in body.program body.birth.text)) (context_of body.birth) (own log) (place_of body.context body.standing) (around_of body.standing body.frames) body.context (fits.stands f mine) in
     let few = acts_few there.acts (omega arith) in
     omega (arith, few)
 

@@ -14,7 +14,7 @@ use pic_machine::{Call, Reply};
 use script_tree::Stmt;
 
 /// The code that is raised where a limit of the machine is met.
-const LIMIT_MET: Value = 3;
+pub(crate) const LIMIT_MET: Value = 3;
 
 /// The call that the statement asks for, if it asks for one.
 pub(crate) fn call_of(numbers: &Numbers, body: &Body, stmt: &Stmt) -> Option<Call>

@@ -48,12 +48,12 @@ fn is_built_stmt(stmt: &Stmt) -> bool
     match stmt {
         Stmt::Set(..) | Stmt::Add(..) | Stmt::Sub(..) | Stmt::Mul(..) => true,
         Stmt::Put(..) | Stmt::Get(..) | Stmt::Say(_) | Stmt::Spawn(..) | Stmt::Yield => true,
-        Stmt::Signal(_) => true,
+        Stmt::Signal(_) | Stmt::Await(_) => true,
         Stmt::Raise(_) | Stmt::Break | Stmt::If { .. } | Stmt::Loop(_) | Stmt::Try { .. } => true,
         Stmt::Return(_, comp, _) | Stmt::Cancel(_, comp, _) | Stmt::Peek(_, _, comp) => {
             is_built_comp(*comp)
         }
-        Stmt::Detach(comp, _) => is_built_comp(*comp),
+        Stmt::Attach(_, comp, _) | Stmt::Detach(comp, _) => is_built_comp(*comp),
         _ => false,
     }
 }

@@ -1,16 +1,20 @@
 //! The last call of a turn, by which the port gets the body back. The port keeps the body as it stands behind
 //! that call; where the call is refused, the body is set back.
-ghost use Rattle.std.specs.Prelude.{◌≡◌, ◌≢◌, ℕ, [], List, Option};
+ghost use Rattle.std.specs.Prelude.{◌≡◌, ◌≢◌, ◌<◌, ℕ, [], IfErr, IfOk, List, OnOk, Option};
+ghost use Rattle.pic_machine.specs.Lending.{Calm};
+ghost use Rattle.script_tree.specs.Tree.{Tree};
 ghost use Rattle.pic_machine.specs.Turning.{Polled};
 ghost use Rattle.fiber_body.specs.Fits.{Fits};
-ghost use Rattle.fiber_body.specs.Shown.{carry_of};
-ghost use Rattle.fiber_poll.specs.Moving.{IsBefore};
-ghost use Rattle.fiber_poll.specs.UnderWay.{IsHandedBack, IsUp};
+ghost use Rattle.fiber_body.specs.Shown.{carry_of, stood as stood_at};
+ghost use Rattle.fiber_poll.specs.Moving.{IsBefore, weight};
+ghost use Rattle.fiber_poll.specs.Polls.{IsPortOf};
+ghost use Rattle.fiber_poll.specs.UnderWay.{IsHandedBack, IsLast, IsOn, IsUp};
 
-use crate::spot::Spot;
-use fiber_body::{Body, Exit, Standing};
+use crate::looking::TAKEN_ALREADY;
+use crate::spot::{Last, Spot};
+use fiber_body::{Body, Exit, Standing, UnderWay};
 use pic_base::Outcome;
-use pic_machine::{Carried, Port, PortFault, ReadyLine, Turn};
+use pic_machine::{Carried, ParkRefusal, Parts, Port, PortFault, ReadyLine, Turn};
 use script_tree::Stmt;
 
 /// Ends the turn by the yield at this place.
@@ -47,6 +51,61 @@ pub(crate) fn yield_turn<P: Port<Body = Body>, R: ReadyLine>(
             handed_back(body, fault)
         }
     }
+}
+
+/// Suspends the body's fiber until the trigger of these parts is signalled, for which the statement at this
+/// place waits. Where the fiber goes on at once, it answers the body, which stands behind the arming then.
+pub(crate) fn park_turn<P: Port<Body = Body>>(
+    port: &mut P,
+    body: Body,
+    spot: Spot,
+    parts: Parts,
+) -> Result<Body, Turn<Body>>
+    requires port_of { (script : Tree) × IsPortOf script (P.sight port.old) }
+    requires up { IsUp (P.sight port.old) body }
+    requires free { body.owes ≡ [] }
+    requires parks { IsLast body (Last.Park spot parts) }
+    ensures on { IfOk result (λ awake. (told : Option (List ℕ)) → IsOn (P.sight port.old) (P.sight port.new) body awake told told) }
+    ensures lighter { IfOk result (λ awake. weight awake < weight body) }
+    ensures free { IfOk result (λ awake. awake.owes ≡ []) }
+    ensures calm { OnOk result (Calm (P.sight port.old) (P.sight port.new)) }
+    ensures over { IfErr result (λ turn. (told : Option (List ℕ)) → Polled turn carry_of Fits (P.sight port.old) (P.sight port.new) (carry_of body) told told) }
+{
+    let Some(trigger) = parts.trigger else {
+        unreachable!("the wait has a trigger");
+    };
+    let mut body = body;
+    if body.reserve().is_err() {
+        return Err(Turn::Memory(body));
+    }
+    let steps = body.steps();
+    body.stand(spot.within(UnderWay::Awake(trigger)), steps);
+    match port.park(trigger, body) {
+        Ok(()) => Err(Turn::Parked),
+        Err((body, ParkRefusal::Signalled)) => Ok(body),
+        Err((body, ParkRefusal::Taken)) => {
+            Ok(stood(body, spot.behind(Exit::Raised(TAKEN_ALREADY)), steps))
+        }
+        Err((body, ParkRefusal::Again)) => Err(Turn::Again(stood(
+            body,
+            spot.within(UnderWay::Awaits(parts)),
+            steps,
+        ))),
+        Err((body, ParkRefusal::Memory)) => Err(Turn::Memory(stood(
+            body,
+            spot.within(UnderWay::Awaits(parts)),
+            steps,
+        ))),
+    }
+}
+
+/// The body where it stands there, with so many steps left.
+fn stood(body: Body, standing: Standing, steps: u32) -> Body
+    ensures { result ≡ stood_at body standing steps }
+{
+    let mut body = body;
+    body.stand(standing, steps);
+    body
 }
 
 /// Ends the body's fiber, which has left its text.

@@ -11,6 +11,7 @@ mod blocks;
 mod calls;
 mod forms;
 mod last;
+mod looking;
 mod making;
 mod owed;
 mod poller;
@@ -19,6 +20,7 @@ mod spot;
 mod stmts;
 mod turn;
 mod values;
+mod within;
 
 pub use forms::built;
 pub use poller::ScriptPoller;

@@ -4,7 +4,7 @@ ghost use Rattle.fiber_poll.specs.Laws.{port_later};
 ghost use Rattle.fiber_poll.specs.Polls.{IsPortOf};
 ghost use Rattle.fiber_poll.specs.Yields.{few_yields};
 
-use crate::last::{end_turn, handed_back, yield_turn};
+use crate::last::{end_turn, handed_back, park_turn, yield_turn};
 use crate::spot::Last;
 use crate::turn::run_turn;
 use fiber_body::{Body, Numbers};
@@ -56,10 +56,16 @@ impl<P: Port<Body = Body>> Poller<P> for ScriptPoller {
 
     fn poll<R: ReadyLine>(&self, port: &mut P, line: &mut R, body: Body) -> Turn<Body> {
         let mut body = body;
-        match run_turn(self, port, line, &mut body) {
-            Ok(Last::Yield(spot)) => yield_turn(port, line, body, spot),
-            Ok(Last::End(outcome)) => end_turn(port, body, outcome),
-            Err(fault) => handed_back(body, fault),
+        loop {
+            match run_turn(self, port, line, &mut body) {
+                Ok(Last::Yield(spot)) => return yield_turn(port, line, body, spot),
+                Ok(Last::End(outcome)) => return end_turn(port, body, outcome),
+                Ok(Last::Park(spot, parts)) => match park_turn(port, body, spot, parts) {
+                    Ok(awake) => body = awake,
+                    Err(turn) => return turn,
+                },
+                Err(fault) => return handed_back(body, fault),
+            }
         }
     }
 

@@ -1,8 +1,9 @@
 ghost use Rattle.std.specs.Prelude.{◌≡◌, ◌<◌, ◌+◌, ◌^◌};
 ghost use Rattle.fiber_poll.specs.Moving.{behind_at};
 
-use fiber_body::{Exit, Standing};
+use fiber_body::{Exit, Standing, UnderWay};
 use pic_base::Outcome;
+use pic_machine::Parts;
 
 /// A place in a block: that of a statement, or the block's end.
 #[derive(Clone, Copy)]
@@ -19,6 +20,17 @@ impl Spot {
         Standing::At {
             block: self.block,
             place: self.place,
+        }
+    }
+
+    /// That a fiber stands within the statement at this place.
+    pub(crate) fn within(self, way: UnderWay) -> Standing
+        ensures { result ≡ Standing.Within self.block self.place way }
+    {
+        Standing::Within {
+            block: self.block,
+            place: self.place,
+            way,
         }
     }
 
@@ -42,6 +54,8 @@ impl Spot {
 pub(crate) enum Last {
     /// A yield, the statement at this place.
     Yield(Spot),
+    /// The arming of the trigger for which the statement at this place waits with these parts.
+    Park(Spot, Parts),
     /// The fiber's end, with this outcome.
     End(Outcome),
 }

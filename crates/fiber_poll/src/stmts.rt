@@ -4,13 +4,15 @@ ghost use Rattle.std.specs.Bool.{OnFalse, OnTrue};
 ghost use Rattle.pic_machine.specs.Lending.{Calm, Faulted};
 ghost use Rattle.fiber_body.specs.Statements.{first, result as result_of};
 ghost use Rattle.fiber_body.specs.Phases.{calls};
-ghost use Rattle.fiber_poll.specs.Moving.{Goes, IsBefore, IsWaiting, weight};
+ghost use Rattle.fiber_body.specs.Context.{numbering};
+ghost use Rattle.fiber_poll.specs.Moving.{Goes, HasCall, IsBefore, IsWaiting, weight};
 ghost use Rattle.fiber_poll.specs.Polls.{IsPortOf};
 ghost use Rattle.fiber_poll.specs.UnderWay.{CanRun, IsOn, IsUp};
 ghost use Rattle.script_tree.specs.Tree.{Tree};
 
 use crate::blocks::enter;
 use crate::calls::{call_of, take};
+use crate::looking::{begin_attach, begin_await};
 use crate::making::make;
 use crate::owed::{brings_duties, discharge};
 use crate::poller::ScriptPoller;
@@ -29,7 +31,7 @@ pub(crate) fn enter_block(body: &mut Body, spot: Spot, stmt: &Stmt) -> Result<bo
     ensures goes { IfOk result (λ has. OnTrue has (Goes body.old body.new)) }
     ensures lighter { IfOk result (λ has. OnTrue has (weight body.new < weight body.old)) }
     ensures none { IfOk result (λ has. OnFalse has (body.new ≡ body.old)) }
-    ensures calls { IfOk result (λ has. OnFalse has (first body.old.context stmt.now ≡ calls stmt.now)) }
+    ensures calls { IfOk result (λ has. OnFalse has (HasCall body.old.context stmt.now)) }
     ensures kept { OnErr result (body.new ≡ body.old) }
 {
     match stmt {
@@ -50,9 +52,8 @@ pub(crate) fn enter_block(body: &mut Body, spot: Spot, stmt: &Stmt) -> Result<bo
     Ok(true)
 }
 
-/// Makes the call of a statement, which is no yield, ends the statement by its reply, and fulfils what the
-/// fiber owes then.
-pub(crate) fn call<P: Port<Body = Body>, R: ReadyLine>(
+/// Begins a statement that has a call, or several, and is no yield.
+pub(crate) fn begin_calls<P: Port<Body = Body>, R: ReadyLine>(
     poller: &ScriptPoller,
     port: &mut P,
     line: &mut R,
@@ -65,7 +66,40 @@ pub(crate) fn call<P: Port<Body = Body>, R: ReadyLine>(
     requires free { body.old.owes ≡ [] }
     requires before { IsBefore body.old spot stmt.now }
     requires not_done { result_of body.old.context.registers body.old.context.cells stmt.now ≡ None }
-    requires calls { first body.old.context stmt.now ≡ calls stmt.now }
+    requires calls { HasCall body.old.context stmt.now }
+    requires no_yield { stmt.now ≢ Stmt.Yield }
+    requires can { CanRun poller.now stmt.now }
+    ensures on { IsOn (P.sight port.old) (P.sight port.new) body.old body.new (R.told line.old) (R.told line.new) }
+    ensures lighter { OnOk result (weight body.new < weight body.old) }
+    ensures free { OnOk result (body.new.owes ≡ []) }
+    ensures calm { OnOk result (Calm (P.sight port.old) (P.sight port.new)) }
+    ensures gave_up { IfErr result (λ fault. Faulted fault (P.sight port.old) (P.sight port.new)) }
+{
+    match stmt {
+        Stmt::Await(trigger) => begin_await(poller, port, body, spot, *trigger),
+        Stmt::Attach(register, comp, trigger) => {
+            begin_attach(poller, port, body, spot, *register, *comp, *trigger)
+        }
+        _ => call(poller, port, line, body, spot, stmt),
+    }
+}
+
+/// Makes the call of a statement, which is no yield, ends the statement by its reply, and fulfils what the
+/// fiber owes then.
+fn call<P: Port<Body = Body>, R: ReadyLine>(
+    poller: &ScriptPoller,
+    port: &mut P,
+    line: &mut R,
+    body: &mut Body,
+    spot: Spot,
+    stmt: &Stmt,
+) -> Result<(), PortFault>
+    requires port_of { IsPortOf poller.now (P.sight port.old) }
+    requires up { IsUp (P.sight port.old) body.old }
+    requires free { body.old.owes ≡ [] }
+    requires before { IsBefore body.old spot stmt.now }
+    requires not_done { result_of body.old.context.registers body.old.context.cells stmt.now ≡ None }
+    requires calls { first (numbering poller.now.decls) body.old.context stmt.now ≡ calls stmt.now }
     requires no_yield { stmt.now ≢ Stmt.Yield }
     requires can { CanRun poller.now stmt.now }
     ensures on { IsOn (P.sight port.old) (P.sight port.new) body.old body.new (R.told line.old) (R.told line.new) }
@@ -95,7 +129,7 @@ fn ask<P: Port<Body = Body>, R: ReadyLine>(
     requires free { body.old.owes ≡ [] }
     requires before { IsBefore body.old spot stmt.now }
     requires not_done { result_of body.old.context.registers body.old.context.cells stmt.now ≡ None }
-    requires calls { first body.old.context stmt.now ≡ calls stmt.now }
+    requires calls { first (numbering poller.now.decls) body.old.context stmt.now ≡ calls stmt.now }
     requires no_yield { stmt.now ≢ Stmt.Yield }
     requires can { CanRun poller.now stmt.now }
     ensures on { IsOn (P.sight port.old) (P.sight port.new) body.old body.new (R.told line.old) (R.told line.new) }

@@ -1,7 +1,7 @@
 //! The part of a turn before its last call: statements, one by one.
-ghost use Rattle.std.specs.Prelude.{◌≡◌, ◌<◌, ℕ, [], Some, IfErr, IfOk, OnOk};
+ghost use Rattle.std.specs.Prelude.{◌≡◌, ◌<◌, ◌≤◌, ℕ, [], Some, IfErr, IfOk, OnOk};
 ghost use Rattle.pic_machine.specs.Lending.{Calm, Faulted};
-ghost use Rattle.fiber_poll.specs.Moving.{IsAt, IsWaiting};
+ghost use Rattle.fiber_poll.specs.Moving.{IsAt, IsWaiting, weight};
 ghost use Rattle.fiber_poll.specs.Polls.{IsPortOf};
 ghost use Rattle.fiber_poll.specs.UnderWay.{CanRun, IsLast, IsOn, IsStep, IsUp};
 
@@ -10,7 +10,8 @@ use crate::owed::discharge;
 use crate::poller::ScriptPoller;
 use crate::silent::{run_silently, stmt_at};
 use crate::spot::{Last, Spot};
-use crate::stmts::{call, enter_block};
+use crate::stmts::{begin_calls, enter_block};
+use crate::within::go_on;
 use fiber_body::{Body, Exit, Standing, block_at};
 use pic_base::Memory;
 use pic_machine::{Port, PortFault, ReadyLine};
@@ -27,7 +28,7 @@ pub(crate) fn run_turn<P: Port<Body = Body>, R: ReadyLine>(
     requires port_of { IsPortOf poller.now (P.sight port.old) }
     requires up { IsUp (P.sight port.old) body.old }
     ensures on { IsOn (P.sight port.old) (P.sight port.new) body.old body.new (R.told line.old) (R.told line.new) }
-    ensures last { IfOk result (λ last. IsLast body.new last) }
+    ensures last { IfOk result (λ last. IsLast body.new last × (weight body.new ≤ weight body.old)) }
     ensures free { OnOk result (body.new.owes ≡ []) }
     ensures calm { OnOk result (Calm (P.sight port.old) (P.sight port.new)) }
     ensures gave_up { IfErr result (λ fault. Faulted fault (P.sight port.old) (P.sight port.new)) }
@@ -47,7 +48,7 @@ fn run_on<P: Port<Body = Body>, R: ReadyLine>(
     requires up { IsUp (P.sight port.old) body.old }
     requires free { body.old.owes ≡ [] }
     ensures on { IsOn (P.sight port.old) (P.sight port.new) body.old body.new (R.told line.old) (R.told line.new) }
-    ensures last { IfOk result (λ last. IsLast body.new last) }
+    ensures last { IfOk result (λ last. IsLast body.new last × (weight body.new ≤ weight body.old)) }
     ensures free { OnOk result (body.new.owes ≡ []) }
     ensures calm { OnOk result (Calm (P.sight port.old) (P.sight port.new)) }
     ensures gave_up { IfErr result (λ fault. Faulted fault (P.sight port.old) (P.sight port.new)) }
@@ -57,6 +58,11 @@ fn run_on<P: Port<Body = Body>, R: ReadyLine>(
             Standing::Ending(outcome) => return Ok(Last::End(outcome)),
             Standing::Ended => unreachable!("the fiber is live"),
             Standing::Out(exit) => leave(body, exit),
+            Standing::Within { block, place, way } => {
+                if let Some(last) = go_on(port, body, Spot { block, place }, way)? {
+                    return Ok(last);
+                }
+            }
             Standing::At { block, place } => {
                 if let Some(last) = run_from(poller, port, line, body, block, place)? {
                     return Ok(last);
@@ -132,7 +138,7 @@ fn begin<P: Port<Body = Body>, R: ReadyLine>(
     match enter_block(body, spot, stmt) {
         Ok(true) => Ok(None),
         Ok(false) => {
-            call(poller, port, line, body, spot, stmt)?;
+            begin_calls(poller, port, line, body, spot, stmt)?;
             Ok(None)
         }
         Err(Memory) => Err(PortFault::Memory),

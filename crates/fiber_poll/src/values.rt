@@ -2,9 +2,10 @@
 ghost use Rattle.std.specs.Prelude.{◌≡◌};
 ghost use Rattle.fiber_body.specs.Context.{holds};
 ghost use Rattle.fiber_body.specs.Statements.{outcome_number, state_number, won};
+ghost use Rattle.fiber_body.specs.Triggers.{attached_number};
 
 use pic_base::{Outcome, Value};
-use pic_machine::CompleteReply;
+use pic_machine::{AttachReply, CompleteReply};
 use script_tree::Test;
 
 /// Whether the comparison holds.
@@ -28,6 +29,16 @@ pub(crate) fn won(reply: CompleteReply) -> Value
     match reply {
         CompleteReply::Won => 1,
         CompleteReply::Lost(_) => 0,
+    }
+}
+
+/// 1 where a trigger was attached, and else 0.
+pub(crate) fn attached(reply: AttachReply) -> Value
+    ensures { result ≡ attached_number reply }
+{
+    match reply {
+        AttachReply::Attached => 1,
+        AttachReply::Completed(_) => 0,
     }
 }
 

@@ -1,5 +1,5 @@
 -- How the tests' bodies, which yield so many times, fit the logs of their fibers.
-use Rattle.std.proofs.Common.{◌≡◌, ◌≢◌, ℕ, ◌+◌, ◌≤◌, ◌<◌, inl, Some, Option, List, [], ◌∷◌, ◌++◌, length, slice_get, Bool, true, false, refl, sym, ap, subst, ◌∙◌, append_assoc, append-nil, arith}
+use Rattle.std.proofs.Common.{◌≡◌, ◌≢◌, ℕ, ◌+◌, ◌≤◌, ◌<◌, inl, Some, Option, List, [], ◌∷◌, ◌++◌, length, slice_get, true, false, refl, sym, ap, subst, ◌∙◌, append_assoc, append-nil, arith}
 use Rattle.std.specs.List.{AllByRecursion}
 use Rattle.std.specs.Option.{is_some}
 use Rattle.pic_base.specs.declared.duty.Duty.{Duty}

@@ -1,5 +1,6 @@
 -- The numbers that a fiber may use it may use while others act: no other fiber made the same place.
 use Rattle.std.proofs.Common.{◌≡◌, ◌≢◌, ◌⊎◌, ℕ, ◌+◌, ◌<◌, ◌≤◌, inl, inr, nat_lt, Bool, true, false, List, [], ◌∷◌, ◌++◌, length, refl, sym, ap, subst, ◌∙◌, append_assoc, arith}
+use Rattle.std.specs.List.{AllByRecursion}
 use Rattle.std.proofs.lemmas.List.{length-append}
 use Rattle.pic_machine.specs.declared.state.TrigState.TheVariants.{Initial}
 use Rattle.pic_machine.specs.declared.entry.Call.{Call}
@@ -7,7 +8,7 @@ use Rattle.pic_machine.specs.declared.entry.Call.TheVariants.{NewTrigger, NewPla
 use Rattle.pic_machine.specs.declared.entry.Reply.TheVariants.{Full, Made}
 use Rattle.pic_machine.specs.Happened.{Happened}
 use Rattle.pic_machine.specs.State.{State}
-use Rattle.pic_machine.specs.Step.{after, made_below, triggers_after}
+use Rattle.pic_machine.specs.Step.{NamesStand, after, made_below, triggers_after}
 use Rattle.pic_machine.specs.History.{Follows, HasMade, IsLegal, NumbersFit, Origin, Takes, event, world, world_from}
 use Rattle.pic_machine.proofs.Histories.{world_from-append}
 use Rattle.pic_machine.proofs.Lists.{Apart, apart, before, behind, each-append, same}
@@ -59,6 +60,31 @@ one_maker origin hs f g p legal mine theirs =
       at (same one) = ap (λ (h : Happened). h.entry.fiber) one
       at (before between is) = absurd (earlier_place origin mine.front between f g p here (subst (λ (zs : List Happened). Follows origin zs (event g NewPlace (Made p))) is there))
       at (behind between is) = absurd (earlier_place origin theirs.front between g f p there (subst (λ (zs : List Happened). Follows origin zs (event f NewPlace (Made p))) is here))
+
+below_places : (origin : Origin) (whole front back : List Happened) (h : Happened) (c t p : ℕ) → whole ≡ front ++ h ∷ back → Follows origin front h → h.entry.call ≡ Attach p c t → p < (world origin whole).places
+below_places origin whole front back h c t p is follows call_is =
+    let names : NamesStand (world origin front) (Attach p c t) = subst (NamesStand (world origin front)) call_is follows.may.allowed.names in
+    let there : (world origin whole).places ≡ (world_from (world origin front) (h ∷ back)).places =
+    ap (λ (hs : List Happened). (world origin hs).places) is ∙ ap (λ (w : State). w.places) (world_from-append origin.world front (h ∷ back)) in
+    omega (arith, names.0, there, places_from (world origin front) (h ∷ back))
+
+untaken_from : (origin : Origin) (whole front back : List Happened) (p : ℕ) → IsLegal origin whole → whole ≡ front ++ back → (world origin whole).places ≤ p → AllByRecursion (λ h. Takes p h → ⊥) back
+untaken_from origin whole front [] p legal is least = tt
+untaken_from origin whole front (h ∷ back) p legal is least = (
+  λ takes. absurd (omega (arith, least, below_places origin whole front back h takes.0 takes.1 p is (legal.each front back h is) takes.2.0)),
+  untaken_from origin whole (front ++ h ∷ []) back p legal (is ∙ sym (append_assoc front (h ∷ []) back)) least,
+)
+
+-- its fiber may attach a trigger there
+pub fresh_place : (origin : Origin) (hs whole : List Happened) (f p c t : ℕ) → IsLegal origin whole → whole ≡ hs ++ event f NewPlace (Made p) ∷ [] → NumbersFit origin whole f (Attach p c t)
+fresh_place origin hs whole f p c t legal is =
+    let h : Happened = event f NewPlace (Made p) in
+    let next = next_place origin hs f p (legal.each hs [] h is) in
+    let before : IsLegal origin hs = record { each = λ front back x split. legal.each front (back ++ h ∷ []) x (is ∙ (ap (λ (zs : List Happened). zs ++ h ∷ []) split ∙ append_assoc front (x ∷ back) (h ∷ []))) } in
+    let apart : AllByRecursion (λ x. Takes p x → ⊥) whole =
+    subst (AllByRecursion (λ x. Takes p x → ⊥)) (sym is)
+    (each-append (λ x. Takes p x → ⊥) hs (h ∷ []) (untaken_from origin hs [] hs p before refl (omega (arith, next.number))) (λ takes. (let e : NewPlace ≡ Attach p takes.0 takes.1 = takes.2.0 in cc), tt)) in
+    (record { front = hs; back = []; is = is }, apart)
 
 -- a place that was made stands
 pub made_place : (origin : Origin) (hs : List Happened) (f p : ℕ) → IsLegal origin hs → HasMade hs f NewPlace p → p < (world origin hs).places

@@ -20,7 +20,7 @@ module _ (P : Happened → Bool) where
   left_first : (h : Happened) (hs : List Happened) → P h ≡ false → filter P (h ∷ hs) ≡ filter P hs
   left_first h hs left = rw left refl
 
-  each_kept : (Q : Happened → Type 0) (hs : List Happened) → AllByRecursion Q hs → AllByRecursion Q (filter P hs)
+  pub each_kept : (Q : Happened → Type 0) (hs : List Happened) → AllByRecursion Q hs → AllByRecursion Q (filter P hs)
   each_kept Q [] each = tt
   each_kept Q (h ∷ hs) each = one_on (P h) refl (each_kept Q hs each.1) where
     one_on : (kept : Bool) → P h ≡ kept → AllByRecursion Q (filter P hs) → AllByRecursion Q (filter P (h ∷ hs))

@@ -1,5 +1,5 @@
 -- How a body that is out stays so as tests hand it about, and how bodies come home.
-use Rattle.std.proofs.Common.{◌≡◌, ◌≢◌, ℕ, ◌≤◌, Option, None, Result, Ok, Err, IfOk, IfErr, List, [], ◌∷◌, ◌++◌, sym, ap, subst, ◌∙◌, append-nil, arith}
+use Rattle.std.proofs.Common.{◌≡◌, ◌≢◌, ℕ, ◌≤◌, Option, None, Result, Ok, Err, IfOk, IfErr, List, [], ◌++◌, sym, ap, subst, ◌∙◌, append-nil, arith}
 use Rattle.pic_machine.specs.declared.entry.Call.{Call}
 use Rattle.pic_machine.specs.declared.port.ParkRefusal.{ParkRefusal}
 use Rattle.pic_machine.specs.declared.port.ParkRefusal.TheVariants as park

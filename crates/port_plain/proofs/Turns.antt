@@ -7,13 +7,12 @@ use Rattle.pic_machine.specs.declared.entry.Call.{Call}
 use Rattle.pic_machine.specs.declared.entry.Call.TheVariants.{Turn, Yield, Arm, End}
 use Rattle.pic_machine.specs.declared.entry.Reply.{Reply}
 use Rattle.pic_machine.specs.declared.entry.Reply.TheVariants.{Armed, Plain}
-use Rattle.pic_machine.specs.declared.state.TrigState.{TrigState}
 use Rattle.pic_machine.specs.declared.state.TrigState.TheVariants.{Initial}
 use Rattle.pic_machine.specs.Duty.{LeavesDuties}
 use Rattle.pic_machine.specs.Happened.{Happened}
 use Rattle.pic_machine.specs.State.{State, owed_of}
 use Rattle.pic_machine.specs.Step.{IsLive, MayAct, armed, reply_of}
-use Rattle.pic_machine.specs.History.{Follows, IsLegal, MayMake, Origin, event, happening, world}
+use Rattle.pic_machine.specs.History.{Follows, IsLegal, Origin, event, happening, world}
 use Rattle.pic_machine.specs.Log.{is_turn, log, visible}
 use Rattle.pic_machine.specs.Sight.{Carry, Holds, Notes, fiber_of}
 use Rattle.pic_machine.specs.Lending.{Began, Called, FitsWith, Laid, Made}

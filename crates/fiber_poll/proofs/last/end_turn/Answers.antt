@@ -1,5 +1,6 @@
 use Rattle.std.proofs.Common.{None, refl, ◌∙◌}
 use Rattle.pic_machine.specs.declared.entry.Call.TheVariants.{End}
+use Rattle.pic_machine.specs.declared.entry.Reply.TheVariants.{Plain}
 use Rattle.pic_machine.specs.declared.poller.Turn.TheVariants as turn
 use Rattle.pic_machine.specs.declared.port.PortFault.TheVariants.{Memory}
 use Rattle.pic_machine.specs.Turning.{EndsSo}
@@ -20,7 +21,7 @@ end-requires-clause-after g c =
 pub returns-in-Ok : goal.returns-in-Ok
 returns-in-Ok g c = λ told.
     let on = on_reserved {told = told} c.requires.up c.reserve.ensures.notes c.reserve.ensures.rest in
-    stopped Ended c.steps-steps.result (End c.args.outcome) (λ h. EndsSo h.entry.call) on c.stand.ensures c.in-Ok.ensures.made refl refl tt (Adds-nil told) c.in-Ok.ensures.out
+    stopped Ended c.steps-steps.result (End c.args.outcome) Plain (λ h. EndsSo h.entry.call) on c.stand.ensures c.in-Ok.ensures.made refl refl tt (Adds-nil told) c.in-Ok.ensures.out
 
 pub returns-in-Err : goal.returns-in-Err
 returns-in-Err g c = λ told.

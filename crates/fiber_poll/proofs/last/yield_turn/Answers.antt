@@ -1,6 +1,7 @@
 use Rattle.std.proofs.Common.{◌≡◌, ℕ, ◌-◌, Option, None, [], ◌∷◌, refl, sym, ap, subst, ◌∙◌}
 use Rattle.std.specs.Prelude.{unwrap_or}
 use Rattle.pic_machine.specs.declared.entry.Call.TheVariants.{Yield}
+use Rattle.pic_machine.specs.declared.entry.Reply.TheVariants.{Plain}
 use Rattle.pic_machine.specs.declared.poller.Turn.TheVariants as turn
 use Rattle.pic_machine.specs.declared.port.PortFault.TheVariants.{Memory}
 use Rattle.pic_machine.specs.Sight.{fiber_of}
@@ -24,7 +25,7 @@ returns-in-Ok g c =
     let told = g.R.ReadyLine.told c.args.line.now in
     let on = on_reserved {told = told} c.requires.up c.reserve.ensures.notes c.reserve.ensures.rest in
     let number : fiber_of (carry_of c.reserve.new.self) ≡ c.fiber-fiber.result = ap (λ (n : Option ℕ). unwrap_or n 0) c.fiber-fiber.ensures in
-    stopped c.behind.result (c.steps-steps.result - 1) Yield (λ h. YieldsSo h.entry.call) on c.stand.ensures c.in-Ok.ensures.yielded refl refl tt
+    stopped c.behind.result (c.steps-steps.result - 1) Yield Plain (λ h. YieldsSo h.entry.call) on c.stand.ensures c.in-Ok.ensures.yielded refl refl tt
     (subst (λ (n : ℕ). Adds told (g.R.ReadyLine.told c.add.new.self) (n ∷ [])) (sym number) c.add.ensures) c.in-Ok.ensures.out
 
 pub returns-in-Err : goal.returns-in-Err

@@ -1,9 +1,8 @@
 use Rattle.std.proofs.Common.{◌≡◌, ◌<◌, sym, subst, arith, ◌∙◌}
 use Rattle.std.specs.Bool.{OnFalse, OnTrue}
-use Rattle.fiber_body.specs.Phases.{calls}
 use Rattle.fiber_body.specs.Shown.{Shown}
-use Rattle.fiber_body.specs.Statements.{first, result}
-use Rattle.fiber_poll.specs.Moving.{Goes, IsBefore}
+use Rattle.fiber_body.specs.Statements.{result}
+use Rattle.fiber_poll.specs.Moving.{Goes, HasCall, IsBefore}
 use Rattle.fiber_poll.specs.UnderWay.{IsOn, IsUp}
 use Rattle.fiber_poll.proofs.Entering.{spent_goes}
 use Rattle.fiber_poll.proofs.Going.{on_gone, on_none}
@@ -17,8 +16,8 @@ returns-then-steps-eq0-clause-on g c =
 pub returns-in-Yield-clause-on : goal.returns-in-Yield-clause-on
 returns-in-Yield-clause-on g c = on_none c.requires.up
 
-pub call-requires : goal.call-requires
-call-requires g c =
+pub begin_calls-requires : goal.begin_calls-requires
+begin_calls-requires g c =
     let body : Shown = c.args.body.now in
     let one = c.args.stmt.now in
     let same : c.enter_block.new.body ≡ body = subst (λ t. OnFalse t (c.enter_block.new.body ≡ body)) c.in-Ok-false.field-0-test c.in-Ok-false.ensures.none in
@@ -29,24 +28,24 @@ call-requires g c =
       free = subst (λ (z : Shown). z.owes ≡ _) (sym same) c.requires.free;
       before = subst (λ (z : Shown). IsBefore z c.args.spot one) (sym same) (record { here = c.requires.at; steps = some });
       not_done = subst (λ (z : Shown). result z.context.registers z.context.cells one ≡ _) (sym same) (c.requires.waits some).not_done;
-      calls = subst (λ (z : Shown). first z.context one ≡ calls one) (sym same) (subst (λ t. OnFalse t (first body.context one ≡ calls one)) c.in-Ok-false.field-0-test c.in-Ok-false.ensures.calls);
+      calls = subst (λ (z : Shown). HasCall z.context one) (sym same) (subst (λ t. OnFalse t (HasCall body.context one)) c.in-Ok-false.field-0-test c.in-Ok-false.ensures.calls);
       no_yield = c.in_default.not-Yield;
       can = c.requires.can;
     }
 
-pub returns-in_err-call-in-Ok-false-clause-on : goal.returns-in_err-call-in-Ok-false-clause-on
-returns-in_err-call-in-Ok-false-clause-on g c =
+pub returns-in_err-begin_calls-in-Ok-false-clause-on : goal.returns-in_err-begin_calls-in-Ok-false-clause-on
+returns-in_err-begin_calls-in-Ok-false-clause-on g c =
     let same : c.enter_block.new.body ≡ c.args.body.now = subst (λ t. OnFalse t (c.enter_block.new.body ≡ c.args.body.now)) c.in-Ok-false.field-0-test c.in-Ok-false.ensures.none in
-    subst (λ (z : Shown). IsOn (g.P.Port.sight c.args.port.now) (g.P.Port.sight c.call.new.port) z c.call.new.body (g.R.ReadyLine.told c.args.line.now) (g.R.ReadyLine.told c.call.new.line)) same c.call.ensures.on
+    subst (λ (z : Shown). IsOn (g.P.Port.sight c.args.port.now) (g.P.Port.sight c.begin_calls.new.port) z c.begin_calls.new.body (g.R.ReadyLine.told c.args.line.now) (g.R.ReadyLine.told c.begin_calls.new.line)) same c.begin_calls.ensures.on
 
 pub returns-in-Ok-true-clause-on : goal.returns-in-Ok-true-clause-on
 returns-in-Ok-true-clause-on g c =
     on_gone c.requires.up (subst (λ t. OnTrue t (Goes c.args.body.now c.enter_block.new.body)) c.in-Ok-true.field-0-test c.in-Ok-true.ensures.goes)
 
-pub returns-in_ok-call-in-Ok-false-clause-on : goal.returns-in_ok-call-in-Ok-false-clause-on
-returns-in_ok-call-in-Ok-false-clause-on g c =
+pub returns-in_ok-begin_calls-in-Ok-false-clause-on : goal.returns-in_ok-begin_calls-in-Ok-false-clause-on
+returns-in_ok-begin_calls-in-Ok-false-clause-on g c =
     let same : c.enter_block.new.body ≡ c.args.body.now = subst (λ t. OnFalse t (c.enter_block.new.body ≡ c.args.body.now)) c.in-Ok-false.field-0-test c.in-Ok-false.ensures.none in
-    subst (λ (z : Shown). IsOn (g.P.Port.sight c.args.port.now) (g.P.Port.sight c.call.new.port) z c.call.new.body (g.R.ReadyLine.told c.args.line.now) (g.R.ReadyLine.told c.call.new.line)) same c.call.ensures.on
+    subst (λ (z : Shown). IsOn (g.P.Port.sight c.args.port.now) (g.P.Port.sight c.begin_calls.new.port) z c.begin_calls.new.body (g.R.ReadyLine.told c.args.line.now) (g.R.ReadyLine.told c.begin_calls.new.line)) same c.begin_calls.ensures.on
 
 pub returns-in-Err-clause-on : goal.returns-in-Err-clause-on
 returns-in-Err-clause-on g c =

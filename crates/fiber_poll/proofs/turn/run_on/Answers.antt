@@ -1,12 +1,13 @@
 use Rattle.std.proofs.lemmas.Result.{err_from_is_err_and}
-use Rattle.std.proofs.Common.{refl, subst, ◌∙◌}
+use Rattle.std.proofs.Common.{◌<◌, refl, sym, subst, ◌∙◌, arith}
+use Rattle.fiber_poll.specs.Moving.{weight}
 use Rattle.fiber_poll.specs.UnderWay.{IsStep}
 use Rattle.fiber_poll.proofs.Going.{free_gone, gave_up_after, on_none, on_trans, port_stays}
 use Rattle.fiber_poll.proofs.Looping.{on_with}
 use Rattle.fiber_poll.proofs.turn.run_on.Goals as goal
 
 pub loop-outcome-init : goal.loop-outcome-init
-loop-outcome-init g c = (on_none c.requires.up, refl, c.requires.free)
+loop-outcome-init g c = (on_none c.requires.up, refl, c.requires.free, omega arith)
 
 pub run_from-requires-clause-port_of : goal.run_from-requires-clause-port_of
 run_from-requires-clause-port_of g c = port_stays c.requires.port_of c.loop-outcome.invariant.0
@@ -19,20 +20,50 @@ returns-in_err-last-in-At-clause-on g c = on_trans c.loop-outcome.invariant.0 c.
 
 pub returns-in_err-last-in-At-clause-gave_up : goal.returns-in_err-last-in-At-clause-gave_up
 returns-in_err-last-in-At-clause-gave_up g c =
-    let p = err_from_is_err_and c.from_residual.result c.from_residual.ensures.1 in
+    let p = err_from_is_err_and c.from_residual-in_err-last-in-At.result c.from_residual-in_err-last-in-At.ensures.1 in
     rw p.1 (rw p.2 (gave_up_after (g.P.Port.sight c.args.port.now) (g.P.Port.sight c.loop-outcome.port) (g.P.Port.sight c.run_from.new.port) c.in_err-last-in-At.field-0.0 c.loop-outcome.invariant.0.went.grew.later.steady c.loop-outcome.invariant.1 c.in_err-last-in-At.ensures.gave_up))
 
+pub returns-in-Some-2-clause-on : goal.returns-in-Some-2-clause-on
+returns-in-Some-2-clause-on g c = on_trans c.loop-outcome.invariant.0 c.run_from.ensures.on
+
+pub returns-in-Some-2-clause-last : goal.returns-in-Some-2-clause-last
+returns-in-Some-2-clause-last g c =
+    let step = subst (IsStep c.loop-outcome.body c.run_from.new.body) c.in-Some-2.is c.in_ok-last-in-At.ensures.step in
+    let before = c.loop-outcome.invariant.3 in
+    (step.0, omega (arith, step.1, before))
+
+pub returns-in_err-last-in-Within-clause-on : goal.returns-in_err-last-in-Within-clause-on
+returns-in_err-last-in-Within-clause-on g c = on_trans c.loop-outcome.invariant.0 (c.go_on.ensures.on (g.R.ReadyLine.told c.loop-outcome.line))
+
 pub returns-in-Some-clause-on : goal.returns-in-Some-clause-on
-returns-in-Some-clause-on g c = on_trans c.loop-outcome.invariant.0 c.run_from.ensures.on
+returns-in-Some-clause-on g c = on_trans c.loop-outcome.invariant.0 (c.go_on.ensures.on (g.R.ReadyLine.told c.loop-outcome.line))
+
+pub returns-in-Some-clause-last : goal.returns-in-Some-clause-last
+returns-in-Some-clause-last g c =
+    let step = subst (IsStep c.loop-outcome.body c.go_on.new.body) c.in-Some.is c.in_ok-last-in-Within.ensures.step in
+    let before = c.loop-outcome.invariant.3 in
+    (step.0, omega (arith, step.1, before))
+
+pub returns-in-Ending-clause-last : goal.returns-in-Ending-clause-last
+returns-in-Ending-clause-last g c = (sym c.standing.ensures ∙ c.in-Ending.is, c.loop-outcome.invariant.3)
 
 pub loop-outcome-smaller : goal.loop-outcome-smaller
-loop-outcome-smaller g c = subst (IsStep c.loop-outcome.body c.run_from.new.body) c.in_default.is c.in_ok-last-in-At.ensures.step
+loop-outcome-smaller g c = subst (IsStep c.loop-outcome.body c.run_from.new.body) c.in_default-2.is c.in_ok-last-in-At.ensures.step
 
 pub loop-outcome-preserved : goal.loop-outcome-preserved
-loop-outcome-preserved g c = (on_trans c.loop-outcome.invariant.0 c.run_from.ensures.on, c.in_ok-last-in-At.ensures.calm ∙ c.loop-outcome.invariant.1, c.in_ok-last-in-At.ensures.free)
+loop-outcome-preserved g c =
+    let less : weight c.run_from.new.body < weight c.loop-outcome.body = subst (IsStep c.loop-outcome.body c.run_from.new.body) c.in_default-2.is c.in_ok-last-in-At.ensures.step in
+    let before = c.loop-outcome.invariant.3 in
+    (on_trans c.loop-outcome.invariant.0 c.run_from.ensures.on, c.in_ok-last-in-At.ensures.calm ∙ c.loop-outcome.invariant.1, c.in_ok-last-in-At.ensures.free, omega (arith, less, before))
+
+pub loop-outcome-preserved-in_default : goal.loop-outcome-preserved-in_default
+loop-outcome-preserved-in_default g c =
+    let less : weight c.go_on.new.body < weight c.loop-outcome.body = subst (IsStep c.loop-outcome.body c.go_on.new.body) c.in_default.is c.in_ok-last-in-Within.ensures.step in
+    let before = c.loop-outcome.invariant.3 in
+    (on_trans c.loop-outcome.invariant.0 (c.go_on.ensures.on (g.R.ReadyLine.told c.loop-outcome.line)), c.in_ok-last-in-Within.ensures.calm ∙ c.loop-outcome.invariant.1, c.in_ok-last-in-Within.ensures.free, omega (arith, less, before))
 
 pub loop-outcome-preserved-in-Out : goal.loop-outcome-preserved-in-Out
-loop-outcome-preserved-in-Out g c = (on_with c.loop-outcome.invariant.0 c.leave.ensures.goes, c.loop-outcome.invariant.1, free_gone c.leave.ensures.goes c.loop-outcome.invariant.2)
+loop-outcome-preserved-in-Out g c = (on_with c.loop-outcome.invariant.0 c.leave.ensures.goes, c.loop-outcome.invariant.1, free_gone c.leave.ensures.goes c.loop-outcome.invariant.2, (let less = c.leave.ensures.lighter in let before = c.loop-outcome.invariant.3 in omega (arith, less, before)))
 
 pub run_from-requires-clause-free : goal.run_from-requires-clause-free
 run_from-requires-clause-free g c = c.loop-outcome.invariant.2

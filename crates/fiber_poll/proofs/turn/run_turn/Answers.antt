@@ -1,5 +1,4 @@
-use Rattle.std.proofs.Common.{◌∙◌}
-use Rattle.fiber_poll.proofs.Going.{gave_up_after, on_trans, port_stays}
+use Rattle.fiber_poll.proofs.Going.{on_trans, port_stays}
 use Rattle.fiber_poll.proofs.turn.run_turn.Goals as goal
 
 pub run_on-requires-clause-port_of : goal.run_on-requires-clause-port_of

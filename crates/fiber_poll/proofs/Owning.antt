@@ -1,0 +1,78 @@
+-- What a body that stands within a statement may call: it names what stands, and its place is its own.
+use Rattle.std.proofs.Common.{◌≡◌, ℕ, ◌<◌, ◌≤◌, inl, Option, Some, None, [], length, refl, sym, ap, subst, arith}
+use Rattle.std.specs.Prelude.{unwrap_or}
+use Rattle.std.specs.Option.{IfSome}
+use Rattle.pic_base.specs.declared.action.Action.TheVariants.{Resume}
+use Rattle.pic_machine.specs.declared.entry.Call.TheVariants as asked
+use Rattle.pic_machine.specs.declared.waits.Parts.{Parts}
+use Rattle.pic_machine.specs.declared.waits.Standing.{Standing as Under}
+use Rattle.pic_machine.specs.History.{MayMake, NumbersFit, world}
+use Rattle.pic_machine.specs.Log.{log, own}
+use Rattle.pic_machine.specs.Sight.{Sight, fiber_of}
+use Rattle.pic_machine.proofs.Numbers.{made_place}
+use Rattle.pic_machine.proofs.NumbersByLog.{numbers_by_own}
+use Rattle.fiber_await.specs.Phases.{trigger_of}
+use Rattle.script_tree.specs.Tree.{Tree}
+use Rattle.fiber_body.specs.declared.standing.Standing.TheVariants.{Within}
+use Rattle.fiber_body.specs.declared.under_way.UnderWay.TheVariants.{Awaits, Attaches}
+use Rattle.fiber_body.specs.Context.{count_of}
+use Rattle.script_tree.specs.declared.thing.Sort.TheVariants as sort
+use Rattle.fiber_body.specs.Owns.{IsDeclared, OwnsPlace, OwnsWait}
+use Rattle.fiber_body.specs.Shown.{Shown, carry_of}
+use Rattle.fiber_body.specs.Texts.{script_in}
+use Rattle.fiber_poll.specs.declared.spot.Spot.{Spot}
+use Rattle.fiber_poll.specs.Polls.{IsPortOf}
+use Rattle.fiber_poll.specs.UnderWay.{IsUp}
+use Rattle.fiber_poll.proofs.Births.{current_stands}
+use Rattle.fiber_poll.proofs.Giving.{comp_stands, trigger_stands}
+use Rattle.fiber_poll.proofs.Going.{may_make, program_up}
+use Rattle.fiber_poll.proofs.Stages.{within_up}
+
+module _ (tree : Tree) {p : Sight (Option Tree)} {a : Shown} where
+  declared_here : (t : ℕ) → IsPortOf tree p → IsUp p a → IsDeclared (script_in a.program) t → IsDeclared tree t
+  declared_here t of up declared = subst (λ (tr : Tree). IsDeclared tr t) (ap script_in (program_up tree p a of up)) declared
+
+  -- a place of the fiber's own may take an attachment
+  own_place : (place k t : ℕ) → IsUp p a → OwnsPlace (fiber_of (carry_of a)) (own (log p.front (fiber_of (carry_of a)))) place
+      → NumbersFit p.origin p.front (fiber_of (carry_of a)) (asked.Attach place k t) × (place < (world p.origin p.front).places)
+  own_place place k t up owns =
+      let fits = numbers_by_own p.origin p.front (fiber_of (carry_of a)) (asked.Attach place k t) up.holds.legal owns in
+      (fits, made_place p.origin p.front (fiber_of (carry_of a)) place up.holds.legal fits.0)
+
+  pub attach_may : (spot : Spot) (r k t place : ℕ) → IsPortOf tree p → IsUp p a → a.owes ≡ [] → a.standing ≡ Within spot.block spot.place (Attaches r k t (Some place)) → MayMake p.origin p.front (fiber_of (carry_of a)) (asked.Attach place k t)
+  attach_may spot r k t place of up free at =
+      let kept = (within_up spot (Attaches r k t (Some place)) up at).1 in
+      let here = own_place place k t up kept.1 in
+      let comp : k ≤ count_of sort.Comp tree.decls = subst (λ (tr : Tree). k ≤ count_of sort.Comp tr.decls) (ap script_in (program_up tree p a of up)) kept.0.comp in
+      may_make up free (here.1, comp_stands of k comp, trigger_stands of t (declared_here t of up kept.0.trigger)) tt here.0
+
+  -- the current computation stands
+  current_here : (u : Under) → IsPortOf tree p → IsUp p a → u.current ≡ a.birth.current → u.current < length (world p.origin p.front).comps
+  current_here u of up same =
+      subst (λ (k : ℕ). k < length (world p.origin p.front).comps) (sym same)
+      (current_stands p.origin p.front (fiber_of (carry_of a)) a.birth up.holds.legal of.main (up.holds.birth up.fiber))
+
+  pub wait_may : (spot : Spot) (parts : Parts) (u : Under) → IsPortOf tree p → IsUp p a → a.owes ≡ [] → a.standing ≡ Within spot.block spot.place (Awaits parts) → u.current ≡ a.birth.current
+      → IfSome parts.place (λ place. parts.at ≡ 2 → MayMake p.origin p.front (fiber_of (carry_of a)) (asked.Attach place u.current (trigger_of parts)))
+  wait_may spot parts u of up free at same = by_place parts.place refl where
+    kept : OwnsWait (script_in a.program) (fiber_of (carry_of a)) (own (log p.front (fiber_of (carry_of a)))) parts
+    kept = (within_up spot (Awaits parts) up at).1
+
+    by_place : (o : Option ℕ) → parts.place ≡ o → IfSome o (λ place. parts.at ≡ 2 → MayMake p.origin p.front (fiber_of (carry_of a)) (asked.Attach place u.current (trigger_of parts)))
+    by_place None is = tt
+    by_place (Some place) is = λ two.
+        let owns = subst (λ (o : Option ℕ). IfSome o (OwnsPlace (fiber_of (carry_of a)) (own (log p.front (fiber_of (carry_of a)))))) is (kept.place two) in
+        let here = own_place place u.current (trigger_of parts) up owns in
+        may_make up free (here.1, current_here u of up same, trigger_stands of (trigger_of parts) (declared_here (trigger_of parts) of up kept.trigger)) tt here.0
+
+  pub wake_may : (u : Under) → IsPortOf tree p → IsUp p a → a.owes ≡ [] → u.current ≡ a.birth.current → MayMake p.origin p.front (fiber_of (carry_of a)) (asked.Peek u.current)
+  wake_may u of up free same = may_make up free (current_here u of up same) tt tt
+
+  -- a trigger for which it waits may be armed
+  pub arm_may : (spot : Spot) (parts : Parts) (t : ℕ) → IsPortOf tree p → IsUp p a → a.owes ≡ [] → a.standing ≡ Within spot.block spot.place (Awaits parts) → parts.trigger ≡ Some t
+      → MayMake p.origin p.front (fiber_of (carry_of a)) (asked.Arm t (Resume (fiber_of (carry_of a))))
+  arm_may spot parts t of up free at is =
+      let kept : OwnsWait (script_in a.program) (fiber_of (carry_of a)) (own (log p.front (fiber_of (carry_of a)))) parts = (within_up spot (Awaits parts) up at).1 in
+      let same : trigger_of parts ≡ t = ap (λ (o : Option ℕ). unwrap_or o 0) is in
+      let declared : IsDeclared tree t = subst (IsDeclared tree) same (declared_here (trigger_of parts) of up kept.trigger) in
+      may_make up free (trigger_stands of t declared) refl (inl (omega (arith, declared, of.triggers)))

@@ -12,6 +12,7 @@ mod flags;
 mod reports;
 mod triggers;
 mod turns;
+mod waiting;
 mod words;
 
 const FIRST: &str = "picos 1

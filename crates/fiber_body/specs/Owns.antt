@@ -4,6 +4,7 @@ use Rattle.std.specs.List.{AllByRecursion}
 use Rattle.std.specs.Option.{IfSome}
 use Rattle.pic_machine.specs.declared.entry.Call.TheVariants.{NewPlace}
 use Rattle.pic_machine.specs.declared.waits.Parts.{Parts}
+use Rattle.pic_machine.specs.Following.{IsFollowing}
 use Rattle.pic_machine.specs.Happened.{Happened}
 use Rattle.pic_machine.specs.History.{HasMade, Takes}
 use Rattle.script_tree.specs.declared.thing.Sort.TheVariants as sort
@@ -11,7 +12,7 @@ use Rattle.script_tree.specs.Tree.{Tree}
 use Rattle.fiber_body.specs.declared.standing.Standing.{Standing}
 use Rattle.fiber_body.specs.declared.standing.Standing.TheVariants.{Within}
 use Rattle.fiber_body.specs.declared.under_way.UnderWay.{UnderWay}
-use Rattle.fiber_body.specs.declared.under_way.UnderWay.TheVariants.{Places, Awaits, Awake, Attaches}
+use Rattle.fiber_body.specs.declared.under_way.UnderWay.TheVariants.{Places, Awaits, Awake, Attaches, Follows}
 use Rattle.fiber_body.specs.Context.{count_of}
 use Rattle.fiber_body.specs.Triggers.{trigger_in}
 
@@ -36,11 +37,18 @@ pub record OwnsAttachment (script : Tree) (r k t : ℕ) : Type 0 where
   pub comp : k ≤ count_of sort.Comp script.decls
   pub trigger : IsDeclared script t
 
+-- a wait for the root or a declared computation, with what its fiber has made for it so far
+pub record OwnsFollowing (script : Tree) (f : ℕ) (mine : List Happened) (r k : ℕ) (parts : Parts) : Type 0 where
+  pub register : r < 16
+  pub comp : k ≤ count_of sort.Comp script.decls
+  pub on : IsFollowing f mine parts
+
 abbrev pub OwnsParts : Tree → ℕ → List Happened → UnderWay → Type 0
 OwnsParts script f mine (Places trigger) = IsDeclared script trigger
 OwnsParts script f mine (Awake trigger) = IsDeclared script trigger
 OwnsParts script f mine (Awaits parts) = OwnsWait script f mine parts
 OwnsParts script f mine (Attaches register comp trigger place) = OwnsAttachment script register comp trigger × IfSome place (OwnsPlace f mine)
+OwnsParts script f mine (Follows register comp parts) = OwnsFollowing script f mine register comp parts
 
 abbrev pub Owns : Tree → ℕ → List Happened → Standing → Type 0
 Owns script f mine (Within block place way) = (place + 1 < 2 ^ 32) × OwnsParts script f mine way

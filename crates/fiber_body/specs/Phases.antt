@@ -1,6 +1,7 @@
 -- Where a statement stands, from one of its calls to the next one.
 use Rattle.std.specs.Prelude.{ℕ, Option}
 use Rattle.pic_base.specs.declared.outcome.Outcome.{Outcome}
+use Rattle.pic_machine.specs.Following.{Following}
 use Rattle.pic_machine.specs.Waits.{Waiting}
 use Rattle.script_tree.specs.declared.program.Stmt.{Stmt}
 use Rattle.fiber_body.specs.declared.standing.Exit.{Exit}
@@ -36,6 +37,8 @@ pub data Phase : Type 0 where
   awaits_trigger : ℕ → Awaiting → Phase
   -- it gives a register the answer whether the computation got this trigger attached
   attaches_to : ℕ → ℕ → ℕ → Attaching → Phase
+  -- it gives a register the value of the computation, for which it waits
+  awaits_comp : ℕ → ℕ → Following → Phase
   -- one of two blocks was chosen, or none
   branches : Option ℕ → Phase
   -- the body of a loop ended so; a loop begins as if it had just gone on

@@ -4,6 +4,7 @@
 use Rattle.std.specs.Prelude.{ℕ, ◌+◌, ◌-◌, ◌*◌, nat_le, cond, List, Option, Some, None, slice_get, slice_index, slice_set}
 use Rattle.pic_base.specs.declared.outcome.Outcome.{Outcome}
 use Rattle.pic_base.specs.declared.outcome.Outcome.TheVariants.{Returned, Cancelled}
+use Rattle.pic_machine.specs.Following.{peeking}
 use Rattle.pic_machine.specs.declared.birth.Birth.{Birth}
 use Rattle.pic_machine.specs.declared.entry.Call.{Call}
 use Rattle.pic_machine.specs.declared.entry.Call.TheVariants as call
@@ -16,7 +17,7 @@ use Rattle.script_tree.specs.declared.program.Stmt.TheVariants as stmt
 use Rattle.fiber_body.specs.declared.standing.Exit.{Exit}
 use Rattle.fiber_body.specs.declared.standing.Exit.TheVariants.{Next, Raised, Broke}
 use Rattle.fiber_body.specs.Context.{Context, Numbering, comp_in, holds, limit_met, most, overflow, value, value_in, with_register}
-use Rattle.fiber_body.specs.Phases.{Phase, attaches_to, awaits_trigger, branches, calls, ended, goes_on, looking, looks, raise, repeating, tries}
+use Rattle.fiber_body.specs.Phases.{Phase, attaches_to, awaits_comp, awaits_trigger, branches, calls, ended, goes_on, looking, looks, raise, repeating, tries}
 
 -- ---- statements without a call and without a block
 
@@ -119,6 +120,7 @@ abbrev pub first : Numbering → Context → Stmt → Phase
 first numbers c (stmt.Await t) = named (slice_get numbers.triggers t) (stmt.Await t) (λ n. awaits_trigger n looking)
 first numbers c (stmt.Attach r comp t) =
     named (comp_in numbers.comps comp) (stmt.Attach r comp t) (λ k. named (slice_get numbers.triggers t) (stmt.Attach r comp t) (λ n. attaches_to r k n looks))
+first numbers c (stmt.Wait r comp) = named (comp_in numbers.comps comp) (stmt.Wait r comp) (λ k. awaits_comp r k peeking)
 first numbers c (stmt.If a test b then other) = branches (cond (holds test (value c a) (value c b)) (Some then) other)
 first numbers c (stmt.Loop block) = repeating block Next
 first numbers c (stmt.Try block register handler) = tries block register handler

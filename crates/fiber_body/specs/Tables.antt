@@ -7,12 +7,13 @@ use Rattle.pic_base.specs.declared.outcome.Outcome.TheVariants.{Returned, Cancel
 use Rattle.pic_machine.specs.declared.entry.Call.{Call}
 use Rattle.pic_machine.specs.declared.entry.Call.TheVariants.{End}
 use Rattle.pic_machine.specs.declared.entry.Reply.{Reply}
-use Rattle.pic_machine.specs.Waits.{over, taken, told, woken}
+use Rattle.pic_machine.specs.Following.{finished, following_asks, following_leads, readying, refused, suspending as suspended}
+use Rattle.pic_machine.specs.Waits.{full, over, taken, told, woken}
 use Rattle.script_tree.specs.declared.program.Operand.TheVariants.{Reg}
 use Rattle.fiber_body.specs.declared.standing.Exit.{Exit}
 use Rattle.fiber_body.specs.declared.standing.Exit.TheVariants.{Next, Raised, Broke, Spent}
 use Rattle.fiber_body.specs.Context.{Context, Setting, limit_met, no_step, numbering, stepped, taken_already, value, with_register}
-use Rattle.fiber_body.specs.Phases.{Phase, answers, attaches_to, awaits_trigger, branches, calls, catching, ended, ending, ends, finds_no_place, gone, lives, repeating, suspending, tries, unplaced}
+use Rattle.fiber_body.specs.Phases.{Phase, answers, attaches_to, awaits_comp, awaits_trigger, branches, calls, catching, ended, ending, ends, finds_no_place, gone, lives, repeating, suspending, tries, unplaced}
 use Rattle.fiber_body.specs.Statements.{call_of, replied}
 use Rattle.fiber_body.specs.Triggers.{attaching_asks, attaching_leads, awaiting_asks, awaiting_leads, under}
 
@@ -20,6 +21,7 @@ abbrev pub asks : Setting → Context → Phase → Option Call
 asks s c (calls one) = call_of (numbering s.script.decls) c one
 asks s c (awaits_trigger t p) = awaiting_asks (under c) s.fiber t p
 asks s c (attaches_to r k t p) = attaching_asks k t p
+asks s c (awaits_comp r k p) = following_asks (under c) s.fiber k p
 asks s c (ending outcome ends) = Some (End outcome)
 asks s c _ = None
 
@@ -27,6 +29,7 @@ abbrev pub leads : Context → Phase → Reply → Option Phase
 leads c (calls one) reply = Some (replied c one reply)
 leads c (awaits_trigger t p) reply = option_map (awaits_trigger t) (awaiting_leads (under c) p reply)
 leads c (attaches_to r k t p) reply = option_map (attaches_to r k t) (attaching_leads p reply)
+leads c (awaits_comp r k p) reply = option_map (awaits_comp r k) (following_leads (under c) p reply)
 leads c (ending outcome ends) reply = Some (ending outcome gone)
 leads c _ reply = None
 
@@ -57,6 +60,11 @@ settles c (awaits_trigger t (suspending (over taken))) = Some (ends_by (Raised t
 settles c (awaits_trigger t unplaced) = Some (ends_by (Raised limit_met) c)
 settles c (attaches_to r k t (answers n)) = Some (ends_by Next (with_register c r n))
 settles c (attaches_to r k t finds_no_place) = Some (ends_by (Raised limit_met) c)
+settles c (awaits_comp r k (finished (Returned v))) = Some (ends_by Next (with_register c r v))
+settles c (awaits_comp r k (finished (Cancelled code))) = Some (ends_by (Raised code) c)
+settles c (awaits_comp r k (refused code)) = Some (ends_by (Raised code) c)
+settles c (awaits_comp r k (readying full)) = Some (ends_by (Raised limit_met) c)
+settles c (awaits_comp r k (suspended t (over taken))) = Some (ends_by (Raised taken_already) c)
 settles c (branches None) = Some (ends_by Next c)
 settles c (branches (Some block)) = Some (goes_into block c)
 settles c (repeating block Next) = Some (next_round block c)

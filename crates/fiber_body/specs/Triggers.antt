@@ -11,11 +11,12 @@ use Rattle.pic_machine.specs.declared.entry.Reply.TheVariants as reply
 use Rattle.pic_machine.specs.declared.state.TrigState.TheVariants.{Initial, Awaiting as AwaitedBy, Signalled}
 use Rattle.pic_machine.specs.declared.waits.Parts.{Parts}
 use Rattle.pic_machine.specs.declared.waits.Standing.{Standing}
+use Rattle.pic_machine.specs.Following.{following_at}
 use Rattle.pic_machine.specs.Waits.{awake, over, taken, waiting_asks, waiting_at, waiting_leads, waits, woken}
 use Rattle.fiber_body.specs.declared.under_way.UnderWay.{UnderWay}
-use Rattle.fiber_body.specs.declared.under_way.UnderWay.TheVariants.{Places, Awaits, Awake, Attaches}
+use Rattle.fiber_body.specs.declared.under_way.UnderWay.TheVariants.{Places, Awaits, Awake, Attaches, Follows}
 use Rattle.fiber_body.specs.Context.{Context}
-use Rattle.fiber_body.specs.Phases.{Attaching, Awaiting, Phase, answers, attaches, attaches_to, awaits_trigger, finds_no_place, looking, looks, places, placing, suspending, unplaced}
+use Rattle.fiber_body.specs.Phases.{Attaching, Awaiting, Phase, answers, attaches, attaches_to, awaits_comp, awaits_trigger, finds_no_place, looking, looks, places, placing, suspending, unplaced}
 
 -- under what the fiber waits
 abbrev pub under : Context → Standing
@@ -71,3 +72,4 @@ phase_of c (Awaits parts) = awaits_trigger (trigger_in parts) (suspending (waiti
 phase_of c (Awake trigger) = awaits_trigger trigger (suspending (awake (under c)))
 phase_of c (Attaches register comp trigger None) = attaches_to register comp trigger places
 phase_of c (Attaches register comp trigger (Some place)) = attaches_to register comp trigger (attaches place)
+phase_of c (Follows register comp parts) = awaits_comp register comp (following_at (under c) parts.at parts)

@@ -19,4 +19,10 @@ pub enum UnderWay {
         trigger: TriggerNo,
         place: Option<PlaceNo>,
     },
+    /// A wait for the computation, as far as these parts say; the register gets the value.
+    Follows {
+        register: u8,
+        comp: CompNo,
+        parts: Parts,
+    },
 }

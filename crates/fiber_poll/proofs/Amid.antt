@@ -5,14 +5,14 @@ use Rattle.pic_base.specs.declared.action.Action.TheVariants.{Resume}
 use Rattle.pic_machine.specs.declared.entry.Call.{Call}
 use Rattle.pic_machine.specs.declared.entry.Call.TheVariants as asked
 use Rattle.pic_machine.specs.declared.entry.Reply.{Reply}
-use Rattle.pic_machine.specs.declared.waits.Standing.{Standing as Under}
 use Rattle.pic_machine.specs.Happened.{Happened}
 use Rattle.pic_machine.specs.History.{event}
 use Rattle.pic_machine.specs.Log.{log, own}
-use Rattle.pic_machine.specs.Routine.{Goes as GoesBy, goes, stays}
+use Rattle.pic_machine.specs.Following.{Following, finished as done, following, following_asks, peeking, placing as placed, readying, refused, suspending as suspended}
+use Rattle.pic_machine.specs.Routine.{Goes as GoesBy, Routine, goes, stays}
 use Rattle.pic_machine.specs.Sight.{Carry, Sight, fiber_of}
 use Rattle.pic_machine.specs.Turning.{Went}
-use Rattle.pic_machine.specs.Waits.{Waiting, arming, attaching, checking, over, waiting, waiting_asks}
+use Rattle.pic_machine.specs.Waits.{Waiting, arming, attaching, checking, full, made, over, place as making_place, taken, told, trigger as making_trigger, waiting, waiting_asks, woken}
 use Rattle.pic_machine.proofs.Owns.{own-append}
 use Rattle.fiber_await.specs.Doing.{Did}
 use Rattle.fiber_await.proofs.Running.{did_went}
@@ -28,7 +28,7 @@ use Rattle.fiber_body.specs.Fits.{LeadsTo, setting_of}
 use Rattle.fiber_body.specs.Follows.{context_of}
 use Rattle.fiber_body.specs.Framing.{ends_ahead, leads_entry}
 use Rattle.fiber_body.specs.Owns.{Owns, OwnsParts}
-use Rattle.fiber_body.specs.Phases.{Phase, awaits_trigger, lives, suspending}
+use Rattle.fiber_body.specs.Phases.{Phase, awaits_comp, awaits_trigger, lives, suspending}
 use Rattle.fiber_body.specs.Segments.{happens}
 use Rattle.fiber_body.specs.Shown.{IsSameRest, Shown, carry_of}
 use Rattle.fiber_body.specs.Statements.{begins, born}
@@ -80,21 +80,50 @@ no_birth c f t arming call is = let same : asked.Arm t (Resume f) ≡ call = cc 
 no_birth c f t checking call is = let same : asked.Peek c.current ≡ call = cc in subst (λ (k : Call). born c k ≡ None) same refl
 no_birth c f t (over how) call is = absurd cc
 
-module _ (a : Shown) (f : ℕ) (spot : Spot) (t : ℕ) (c : Context) where
-  -- a wait leads on as its routine goes
-  pub amid_rides : (mine : List Happened) {x y : Waiting} {es : List Happened} → GoesBy (waiting (under c) f t) f x es y → LeadsAmid a f spot mine (awaits_trigger t (suspending x)) c
-      → LeadsAmid a f spot (mine ++ es) (awaits_trigger t (suspending y)) c
-  amid_rides mine {x} stays before = subst (λ (zs : List Happened). LeadsAmid a f spot zs (awaits_trigger t (suspending x)) c) (sym (append-nil mine)) before
-  amid_rides mine {y = y} (goes {p} {m} {hs = hs} call reply asked led later) before =
-      let h : Happened = event f call reply in
-      let next = amid_entry a f spot mine (awaits_trigger t (suspending p)) (awaits_trigger t (suspending m)) c call reply (no_birth c f t p call asked) asked
-      (ap (λ (o : Option Waiting). option_map (awaits_trigger t) (option_map suspending o)) led) before in
-      subst (λ (zs : List Happened). LeadsAmid a f spot zs (awaits_trigger t (suspending y)) c) (append_assoc mine (h ∷ []) hs) (amid_rides (mine ++ h ∷ []) later next)
+no_birth_looked : (c : Context) (k : ℕ) (call : Call) → asked.Peek k ≡ call → born c call ≡ None
+no_birth_looked c k call is = subst (λ (x : Call). born c x ≡ None) is refl
 
--- all of its entries are its fiber's own
-pub own_rides : (u : Under) (f t : ℕ) {g : ℕ} {x y : Waiting} {es : List Happened} → GoesBy (waiting u f t) g x es y → own es ≡ es
-own_rides u f t stays = refl
-own_rides u f t {g} (goes call reply asked led later) = ap (λ (zs : List Happened). event g call reply ∷ zs) (own_rides u f t later)
+no_birth_either : (c : Context) (f k : ℕ) (p : Following) (call : Call) → following_asks (under c) f k p ≡ Some call → born c call ≡ None
+no_birth_either c f k peeking call is = no_birth_looked c k call cc
+no_birth_either c f k (readying making_trigger) call is = let same : asked.NewTrigger ≡ call = cc in subst (λ (x : Call). born c x ≡ None) same refl
+no_birth_either c f k (readying (making_place t)) call is = let same : asked.NewPlace ≡ call = cc in subst (λ (x : Call). born c x ≡ None) same refl
+no_birth_either c f k (readying (made t a)) call is = let same : asked.NewPlace ≡ call = cc in subst (λ (x : Call). born c x ≡ None) same refl
+no_birth_either c f k (readying full) call is = absurd cc
+no_birth_either c f k (placed t a b) call is = let same : asked.Attach b k t ≡ call = cc in subst (λ (x : Call). born c x ≡ None) same refl
+no_birth_either c f k (suspended t (over woken)) call is = no_birth_looked c k call cc
+no_birth_either c f k (suspended t (over (told code))) call is = let same : asked.Signal t ≡ call = cc in subst (λ (x : Call). born c x ≡ None) same refl
+no_birth_either c f k (suspended t (over taken)) call is = absurd cc
+no_birth_either c f k (suspended t (attaching place)) call is = no_birth c f t (attaching place) call is
+no_birth_either c f k (suspended t arming) call is = no_birth c f t arming call is
+no_birth_either c f k (suspended t checking) call is = no_birth c f t checking call is
+no_birth_either c f k (done o) call is = absurd cc
+no_birth_either c f k (refused code) call is = absurd cc
+
+-- a statement leads on as a routine goes whose rows are its own
+module _ {X : Type 0} (a : Shown) (f : ℕ) (spot : Spot) (c : Context) (r : Routine X) (up : X → Phase) (asks_so : (p : X) (call : Call) → r.asks p ≡ Some call → (asks (setting_of a f) c (up p) ≡ Some call) × (born c call ≡ None))
+    (leads_so : (p q : X) (reply : Reply) → r.leads p reply ≡ Some q → leads c (up p) reply ≡ Some (up q)) where
+  amid_goes : (mine : List Happened) {x y : X} {es : List Happened} → GoesBy r f x es y → LeadsAmid a f spot mine (up x) c → LeadsAmid a f spot (mine ++ es) (up y) c
+  amid_goes mine {x} stays before = subst (λ (zs : List Happened). LeadsAmid a f spot zs (up x) c) (sym (append-nil mine)) before
+  amid_goes mine {y = y} (goes {p} {m} {hs = hs} call reply asked led later) before =
+      let h : Happened = event f call reply in
+      let row = asks_so p call asked in
+      let next = amid_entry a f spot mine (up p) (up m) c call reply row.1 row.0 (leads_so p m reply led) before in
+      subst (λ (zs : List Happened). LeadsAmid a f spot zs (up y) c) (append_assoc mine (h ∷ []) hs) (amid_goes (mine ++ h ∷ []) later next)
+
+module _ (a : Shown) (f : ℕ) (spot : Spot) (c : Context) where
+  -- a wait for a trigger
+  pub amid_rides : (t : ℕ) (mine : List Happened) {x y : Waiting} {es : List Happened} → GoesBy (waiting (under c) f t) f x es y → LeadsAmid a f spot mine (awaits_trigger t (suspending x)) c
+      → LeadsAmid a f spot (mine ++ es) (awaits_trigger t (suspending y)) c
+  amid_rides t mine rides =
+      amid_goes a f spot c (waiting (under c) f t) (λ x. awaits_trigger t (suspending x)) (λ p call is. (is, no_birth c f t p call is))
+      (λ p q reply is. ap (λ (o : Option Waiting). option_map (awaits_trigger t) (option_map suspending o)) is) mine rides
+
+  -- a wait for a computation
+  pub amid_follows : (r k : ℕ) (mine : List Happened) {x y : Following} {es : List Happened} → GoesBy (following (under c) f k) f x es y → LeadsAmid a f spot mine (awaits_comp r k x) c
+      → LeadsAmid a f spot (mine ++ es) (awaits_comp r k y) c
+  amid_follows r k mine follows =
+      amid_goes a f spot c (following (under c) f k) (awaits_comp r k) (λ p call is. (is, no_birth_either c f k p call is))
+      (λ p q reply is. ap (λ (o : Option Following). option_map (awaits_comp r k) o) is) mine follows
 
 -- ---- the body stands where the statement came to
 
@@ -138,29 +167,36 @@ pub own_did : (p q : Sight (Option Tree)) (a b : Carry (Option Tree)) (es : List
 own_did p q a b es free did =
     ap own did.grew.log ∙ (own-append (log p.front (fiber_of a)) es ∙ ap (λ (zs : List Happened). own (log p.front (fiber_of a)) ++ zs) free)
 
-pub on_amid : {p q : Sight (Option Tree)} {a b d : Shown} (told : Option (List ℕ)) (spot : Spot) (c : Context) (ph : Phase) (es : List Happened) → IsUp p a → Did p q (carry_of a) (carry_of b) es → b.frames ≡ a.frames → own es ≡ es → spot.place + 1 < 2 ^ 32
+-- a part of the turn went, and its entries lead the statement on
+pub on_amid_went : {p q : Sight (Option Tree)} {a b d : Shown} {before now : Option (List ℕ)} (spot : Spot) (c : Context) (ph : Phase) (es : List Happened) → IsUp p a → Went p q (carry_of a) (carry_of b) before now → b.birth ≡ a.birth → b.program ≡ a.program
+    → own (log q.front (fiber_of (carry_of a))) ≡ own (log p.front (fiber_of (carry_of a))) ++ es → b.frames ≡ a.frames → spot.place + 1 < 2 ^ 32
     → LeadsAmid a (fiber_of (carry_of a)) spot (own (log p.front (fiber_of (carry_of a))) ++ es) ph c
-    → Reached (OwnsParts (script_in a.program) (fiber_of (carry_of a)) (own (log p.front (fiber_of (carry_of a))) ++ es)) b spot c ph d → IsOn p q a d told told
-on_amid {p} {q} {a} {b} {d} told spot c ph es up did frames free room led reached =
+    → Reached (OwnsParts (script_in a.program) (fiber_of (carry_of a)) (own (log p.front (fiber_of (carry_of a))) ++ es)) b spot c ph d → IsOn p q a d before now
+on_amid_went {p} {q} {a} {b} {d} {before} {now} spot c ph es up gone birth program logs frames room led reached =
     let f = fiber_of (carry_of a) in
     let mine = own (log p.front f) ++ es in
-    let logs : own (log q.front f) ≡ mine = own_did p q (carry_of a) (carry_of b) es free did in
-    let went : Went p q (carry_of a) (carry_of d) told told = subst (λ (z : Carry (Option Tree)). Went p q (carry_of a) z told told) (sym (carry_reached b spot c ph d reached)) (did_went p q (carry_of a) (carry_of b) es told did) in
+    let went : Went p q (carry_of a) (carry_of d) before now = subst (λ (z : Carry (Option Tree)). Went p q (carry_of a) z before now) (sym (carry_reached b spot c ph d reached)) gone in
     record {
       went = went;
       up = up_led q d f went.holds (same_number a d went.number) up.fiber
-          (subst (LeadsTo d f) (sym logs) (leads_reached a b f spot c ph mine d frames did.birth did.share led reached))
-          (subst (λ (xs : List Happened). Owns (script_in d.program) f xs d.standing) (sym logs) (owns_reached a b f spot c ph mine d frames did.birth did.share room reached))
-          (live_reached a b f spot c ph mine d frames did.birth did.share reached);
+          (subst (LeadsTo d f) (sym logs) (leads_reached a b f spot c ph mine d frames birth program led reached))
+          (subst (λ (xs : List Happened). Owns (script_in d.program) f xs d.standing) (sym logs) (owns_reached a b f spot c ph mine d frames birth program room reached))
+          (live_reached a b f spot c ph mine d frames birth program reached);
     }
 
+pub on_amid : {p q : Sight (Option Tree)} {a b d : Shown} (line : Option (List ℕ)) (spot : Spot) (c : Context) (ph : Phase) (es : List Happened) → IsUp p a → Did p q (carry_of a) (carry_of b) es → b.frames ≡ a.frames → own es ≡ es → spot.place + 1 < 2 ^ 32
+    → LeadsAmid a (fiber_of (carry_of a)) spot (own (log p.front (fiber_of (carry_of a))) ++ es) ph c
+    → Reached (OwnsParts (script_in a.program) (fiber_of (carry_of a)) (own (log p.front (fiber_of (carry_of a))) ++ es)) b spot c ph d → IsOn p q a d line line
+on_amid {p} {q} {a} {b} {d} line spot c ph es up did frames free room led reached =
+    on_amid_went spot c ph es up (did_went p q (carry_of a) (carry_of b) es line did) did.birth did.share (own_did p q (carry_of a) (carry_of b) es free did) frames room led reached
+
 -- a call was refused, and the body stands where it stood
-pub on_refusal : {p q : Sight (Option Tree)} {a d : Shown} (told : Option (List ℕ)) → IsUp p a → Did p q (carry_of a) (carry_of d) [] → IsSameRest a d → IsOn p q a d told told
-on_refusal {p} {q} {a} {d} told up did same =
+pub on_refusal : {p q : Sight (Option Tree)} {a d : Shown} (line : Option (List ℕ)) → IsUp p a → Did p q (carry_of a) (carry_of d) [] → IsSameRest a d → IsOn p q a d line line
+on_refusal {p} {q} {a} {d} line up did same =
     let f = fiber_of (carry_of a) in
     let mine = own (log p.front f) in
     let logs : own (log q.front f) ≡ mine = own_did p q (carry_of a) (carry_of d) [] refl did ∙ append-nil mine in
-    let went : Went p q (carry_of a) (carry_of d) told told = did_went p q (carry_of a) (carry_of d) [] told did in
+    let went : Went p q (carry_of a) (carry_of d) line line = did_went p q (carry_of a) (carry_of d) [] line did in
     record {
       went = went;
       up = up_led q d f went.holds (same_number a d went.number) up.fiber

@@ -6,6 +6,7 @@ use Rattle.pic_machine.specs.declared.entry.Call.{Call}
 use Rattle.pic_machine.specs.declared.entry.Call.TheVariants as asked
 use Rattle.pic_machine.specs.declared.entry.Reply.{Reply}
 use Rattle.pic_machine.specs.declared.entry.Reply.TheVariants.{Completed, Full, Peeked}
+use Rattle.pic_machine.specs.Following.{peeking}
 use Rattle.pic_machine.specs.Happened.{Happened}
 use Rattle.pic_machine.specs.Log.{is_turn, log, own}
 use Rattle.pic_machine.specs.Order.{GoesOn}
@@ -29,7 +30,7 @@ use Rattle.fiber_body.specs.Fits.{LeadsTo, setting_of}
 use Rattle.fiber_body.specs.Follows.{context_of}
 use Rattle.fiber_body.specs.Framing.{ends_ahead, leads_entry}
 use Rattle.fiber_body.specs.Numbering.{more_counted}
-use Rattle.fiber_body.specs.Phases.{Phase, attaches_to, awaits_trigger, calls, ended, lives, looking, looks}
+use Rattle.fiber_body.specs.Phases.{Phase, attaches_to, awaits_comp, awaits_trigger, calls, ended, lives, looking, looks}
 use Rattle.fiber_body.specs.Segments.{happens}
 use Rattle.fiber_body.specs.Shown.{IsSameRest, Shown, carry_of}
 use Rattle.fiber_body.specs.Statements.{begins, born, call_of, first, named as begins_named, on, or_first, outcome_number, replied, result, state_number, won}
@@ -179,6 +180,9 @@ module _ (tree : Tree) (c : Context) where
       absurd (let there : attaches_to r found.0 trigger.0 looks ≡ calls one =
       subst (λ (o : Option ℕ). begins_named o one (λ n. attaches_to r found.0 n looks) ≡ calls one) trigger.1
       (subst (λ (o : Option ℕ). begins_named o one (λ k. begins_named (slice_get triggers place) one (λ n. attaches_to r k n looks)) ≡ calls one) found.1 is) in cc)
+  asks_by holder (stmt.Wait r comp) fits built none is apart =
+      let found = comp_there tree comp fits.1 built in
+      absurd (let there : awaits_comp r found.0 peeking ≡ calls (stmt.Wait r comp) = subst (λ (o : Option ℕ). begins_named o (stmt.Wait r comp) (λ k. awaits_comp r k peeking) ≡ calls (stmt.Wait r comp)) found.1 is in cc)
   asks_by holder _ fits built none is apart = first_of (search (named, signalled, fits, built), cc)
 
   module _ (numbers : Numbering) (counted : numbers ≡ numbering tree.decls) (one : Stmt) (can : CanRun tree one) (none : result c.registers c.cells one ≡ None) (is : first (numbering tree.decls) c one ≡ calls one) (apart : one ≢ stmt.Yield) where

@@ -40,10 +40,11 @@ is_numbered_comp comp k same found_is number none =
     let both : Some k ≡ None = sym number ∙ (sym (ap (λ (ns : Numbering). comp_in ns.comps comp) same) ∙ (sym found_is ∙ none)) in cc
 
 -- any other statement with a call has one
-pub calls_else : (numbers : Numbering) (c : Context) (one : Stmt) → HasCall c one → ((t : ℕ) → one ≢ stmt.Await t) → ((r : ℕ) (comp : CompRef) (t : ℕ) → one ≢ stmt.Attach r comp t) → first numbers c one ≡ calls one
-calls_else numbers c (stmt.Await t) has no_await no_attach = absurd (no_await t refl)
-calls_else numbers c (stmt.Attach r comp t) has no_await no_attach = absurd (no_attach r comp t refl)
-calls_else numbers c _ has no_await no_attach = has numbers
+pub calls_else : (numbers : Numbering) (c : Context) (one : Stmt) → HasCall c one → ((t : ℕ) → one ≢ stmt.Await t) → ((r : ℕ) (comp : CompRef) (t : ℕ) → one ≢ stmt.Attach r comp t) → ((r : ℕ) (comp : CompRef) → one ≢ stmt.Wait r comp) → first numbers c one ≡ calls one
+calls_else numbers c (stmt.Await t) has no_await no_attach no_wait = absurd (no_await t refl)
+calls_else numbers c (stmt.Attach r comp t) has no_await no_attach no_wait = absurd (no_attach r comp t refl)
+calls_else numbers c (stmt.Wait r comp) has no_await no_attach no_wait = absurd (no_wait r comp refl)
+calls_else numbers c _ has no_await no_attach no_wait = has numbers
 
 module _ (tree : Tree) where
   -- ---- await

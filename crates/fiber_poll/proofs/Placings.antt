@@ -18,6 +18,7 @@ use Rattle.fiber_await.specs.declared.ahead.Ahead.{Ahead}
 use Rattle.fiber_await.specs.declared.ahead.Ahead.TheVariants as ahead
 use Rattle.fiber_await.specs.Doing.{Did, Ran}
 use Rattle.fiber_await.specs.Phases.{trigger_of, unsuspended_at}
+use Rattle.fiber_await.proofs.Running.{goes_own}
 use Rattle.script_tree.specs.Tree.{Tree}
 use Rattle.fiber_body.specs.declared.standing.Exit.TheVariants.{Next, Raised}
 use Rattle.fiber_body.specs.declared.standing.Standing.{Standing}
@@ -34,7 +35,7 @@ use Rattle.fiber_body.specs.Triggers.{attached_number, attaching_leads, awaiting
 use Rattle.fiber_poll.specs.declared.spot.Spot.{Spot}
 use Rattle.fiber_poll.specs.Moving.{behind_at, exit_of, placed, placed_for_attachment, placed_for_wait}
 use Rattle.fiber_poll.specs.UnderWay.{IsOn, IsUp}
-use Rattle.fiber_poll.proofs.Amid.{LeadsAmid, Reached, amid_rides, amid_standing, ends, on_amid, own_did, own_rides, stands}
+use Rattle.fiber_poll.proofs.Amid.{LeadsAmid, Reached, amid_rides, amid_standing, ends, on_amid, own_did, stands}
 use Rattle.fiber_poll.proofs.Stages.{KeptBehind, on_within, stands_there, within_up}
 
 -- ---- places
@@ -134,8 +135,8 @@ rides : {p q : Sight (Option Tree)} (a b : Shown) {d : Shown} (line : Option (Li
 rides {p} a b line spot way t x y up at phase same ran reached =
     let f = fiber_of (carry_of a) in
     let mine = own (log p.front f) in
-    on_amid line spot a.context (awaits_trigger t (suspending y)) ran.es up ran.did same.frames (own_rides (under a.context) f t ran.goes) (within_up spot way up at).0
-    (amid_rides a f spot t a.context mine ran.goes (subst (λ (ph : Phase). LeadsAmid a f spot mine ph a.context) phase (amid_standing a f spot mine way at up.leads))) reached
+    on_amid line spot a.context (awaits_trigger t (suspending y)) ran.es up ran.did same.frames (goes_own (waiting (under a.context) f t) f ran.goes) (within_up spot way up at).0
+    (amid_rides a f spot a.context t mine ran.goes (subst (λ (ph : Phase). LeadsAmid a f spot mine ph a.context) phase (amid_standing a f spot mine way at up.leads))) reached
 
 -- the same, of what the fiber waits under
 pub ran_under : {p q : Sight (Option Tree)} {a b : Carry (Option Tree)} {f t : ℕ} {u v : Under} (x y : Under → Waiting) → u ≡ v → Ran (waiting u f t) p q a b (x u) (y u) → Ran (waiting v f t) p q a b (x v) (y v)

@@ -8,7 +8,7 @@ use Rattle.script_tree.specs.declared.program.Decl.{Decl}
 use Rattle.script_tree.specs.declared.program.Kind.{Kind}
 use Rattle.script_tree.specs.declared.program.Kind.TheVariants.{Trigger, Comp}
 use Rattle.script_tree.specs.declared.program.Stmt.{Stmt}
-use Rattle.script_tree.specs.declared.program.Stmt.TheVariants.{Set, Add, Sub, Mul, Put, Get, Say, Raise, Break, Return, Cancel, Peek, Signal, Detach, Spawn, Yield, If, Loop, Try, Await, Attach}
+use Rattle.script_tree.specs.declared.program.Stmt.TheVariants.{Set, Add, Sub, Mul, Put, Get, Say, Raise, Break, Return, Cancel, Peek, Signal, Detach, Spawn, Yield, If, Loop, Try, Await, Attach, Wait}
 use Rattle.script_tree.specs.Tree.{Tree}
 
 abbrev pub is_built_kind : Kind → Bool
@@ -39,6 +39,7 @@ is_built_stmt (Signal t) = true
 is_built_stmt (Await t) = true
 is_built_stmt (Attach r c t) = is_built_comp c
 is_built_stmt (Detach c t) = is_built_comp c
+is_built_stmt (Wait r c) = is_built_comp c
 is_built_stmt (Spawn text v) = true
 is_built_stmt Yield = true
 is_built_stmt (If a t b p q) = true

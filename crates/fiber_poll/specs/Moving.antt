@@ -1,8 +1,9 @@
 -- How a body moves between two entries of its fiber. Only private contracts cite these words.
-use Rattle.std.specs.Prelude.{◌≡◌, ℕ, ◌+◌, ◌*◌, ◌-◌, ◌<◌, ◌^◌, nat_lt, cond, Bool, true, false, Option, Some, None, List, [], ◌∷◌, ◌++◌, length, slice_get, ⊤}
+use Rattle.std.specs.Prelude.{◌≡◌, ℕ, ◌+◌, ◌*◌, ◌-◌, ◌<◌, ◌^◌, ◌==◌, nat_lt, cond, Bool, true, false, Option, Some, None, List, [], ◌∷◌, ◌++◌, length, slice_get, ⊤}
 use Rattle.pic_machine.specs.declared.entry.Reply.{Reply}
 use Rattle.pic_machine.specs.declared.entry.Reply.TheVariants.{Made, Full}
 use Rattle.pic_machine.specs.declared.state.TrigState.{TrigState}
+use Rattle.pic_machine.specs.declared.waits.Parts.{Parts}
 use Rattle.pic_machine.specs.declared.state.TrigState.TheVariants.{Initial, Awaiting, Signalled}
 use Rattle.fiber_await.specs.declared.ahead.Ahead.{Ahead}
 use Rattle.fiber_await.specs.declared.ahead.Ahead.TheVariants.{Go, Cancelled}
@@ -18,7 +19,7 @@ use Rattle.fiber_body.specs.declared.standing.Frame.TheVariants.{Rest, Repeats, 
 use Rattle.fiber_body.specs.declared.standing.Standing.{Standing}
 use Rattle.fiber_body.specs.declared.standing.Standing.TheVariants.{At, Within, Out, Ended}
 use Rattle.fiber_body.specs.declared.under_way.UnderWay.{UnderWay}
-use Rattle.fiber_body.specs.declared.under_way.UnderWay.TheVariants.{Places, Awaits, Awake, Attaches}
+use Rattle.fiber_body.specs.declared.under_way.UnderWay.TheVariants.{Places, Awaits, Awake, Attaches, Follows}
 use Rattle.fiber_body.specs.Around.{Turns, around_of, place_of}
 use Rattle.fiber_body.specs.Context.{Context, Numbering, block_at, holds, limit_met, taken_already, value, with_register}
 use Rattle.fiber_body.specs.Fits.{setting_of}
@@ -33,13 +34,15 @@ use Rattle.fiber_poll.specs.declared.spot.Spot.{Spot}
 
 -- ---- how much a turn may still do
 
--- a statement that is under way comes nearer to its end with each of its calls
+-- a statement that is under way comes nearer to its end with each of its calls; a wait for a computation does so as its
+-- trigger is armed
 abbrev pub weight_of : UnderWay → ℕ
 weight_of (Places trigger) = 5
 weight_of (Awaits parts) = 4
 weight_of (Awake trigger) = 3
 weight_of (Attaches register comp trigger None) = 4
 weight_of (Attaches register comp trigger (Some place)) = 3
+weight_of (Follows register comp parts) = cond (parts.at == 9) 3 4
 
 -- each statement and each round costs a step, each block that is left is one frame fewer, and a step enters two
 -- frames at most
@@ -122,6 +125,7 @@ pub record IsWaiting (c : Context) (one : Stmt) : Type 0 where
 abbrev pub HasCall : Context → Stmt → Type 0
 HasCall c (stmt.Await trigger) = ⊤
 HasCall c (stmt.Attach register comp trigger) = ⊤
+HasCall c (stmt.Wait register comp) = ⊤
 HasCall c one = (numbers : Numbering) → first numbers c one ≡ calls one
 
 -- what comes of the statement at once
@@ -196,6 +200,21 @@ placed_for_attachment spot register comp trigger None = behind_at spot (Raised l
 abbrev pub exit_of : Ahead → Exit
 exit_of Go = Next
 exit_of (Cancelled code) = Raised code
+
+-- a wait for a computation of which nothing is made yet
+abbrev pub unmade : Parts
+unmade = record { trigger = None; place = None; second = None; at = 0 }
+
+-- the trigger that is to be armed there, and where the fiber goes on behind the arming
+abbrev pub arms_at : UnderWay → Option ℕ
+arms_at (Awaits parts) = parts.trigger
+arms_at (Follows register comp parts) = parts.trigger
+arms_at way = None
+
+abbrev pub behind_arming : UnderWay → ℕ → UnderWay
+behind_arming (Awaits parts) trigger = Awake trigger
+behind_arming (Follows register comp parts) trigger = Follows register comp (record parts { at = 9 })
+behind_arming way trigger = way
 
 -- the reply that made a place, or that says that there is no room for one
 abbrev pub placed : Option ℕ → Reply

@@ -1,5 +1,5 @@
 -- What stands while a turn of a script's fiber is under way. Only private contracts cite these words.
-use Rattle.std.specs.Prelude.{◌≡◌, ◌≢◌, ℕ, ◌≤◌, ◌<◌, IsTrue, Option, Some, None, List, [], ◌∷◌, ⊤}
+use Rattle.std.specs.Prelude.{◌≡◌, ◌≢◌, ℕ, ◌+◌, ◌-◌, ◌≤◌, ◌<◌, length, IsTrue, Option, Some, None, List, [], ◌∷◌, ⊤}
 use Rattle.pic_machine.specs.declared.entry.Call.{Call}
 use Rattle.pic_machine.specs.declared.entry.Call.TheVariants as call
 use Rattle.pic_machine.specs.declared.entry.Reply.{Reply}
@@ -8,6 +8,7 @@ use Rattle.pic_machine.specs.declared.poller.Turn.TheVariants as turn
 use Rattle.pic_machine.specs.declared.port.PortFault.{PortFault}
 use Rattle.pic_machine.specs.declared.port.PortFault.TheVariants.{Full, Again, Memory}
 use Rattle.pic_machine.specs.Lending.{Calm, Lent}
+use Rattle.pic_machine.specs.History.{world}
 use Rattle.pic_machine.specs.Log.{log, own}
 use Rattle.pic_machine.specs.Order.{readied}
 use Rattle.pic_machine.specs.Sight.{Holds, Sight, fiber_of}
@@ -19,8 +20,9 @@ use Rattle.script_tree.specs.declared.thing.Sort.TheVariants as sort
 use Rattle.script_tree.specs.Tree.{Tree}
 use Rattle.script_tree.specs.WellFormed.{IsFiberText, StmtFits}
 use Rattle.fiber_body.specs.declared.standing.Standing.TheVariants.{Within, Ending, Ended}
-use Rattle.fiber_body.specs.declared.under_way.UnderWay.TheVariants.{Awaits}
-use Rattle.fiber_body.specs.Context.{count_of}
+use Rattle.fiber_body.specs.declared.under_way.UnderWay.{UnderWay}
+use Rattle.fiber_body.specs.declared.under_way.UnderWay.TheVariants.{Awaits, Follows}
+use Rattle.fiber_body.specs.Context.{Context, count_of}
 use Rattle.fiber_body.specs.Fits.{LeadsTo}
 use Rattle.fiber_body.specs.Owns.{Owns}
 use Rattle.fiber_body.specs.Segments.{happens}
@@ -47,16 +49,30 @@ pub record IsOn (old new : Sight (Option Tree)) (body later : Shown) (before now
   pub went : Went old new (carry_of body) (carry_of later) before now
   pub up : IsUp new later
 
+-- the trigger of the wait is to be armed next
+abbrev pub IsArming : Context → UnderWay → Type 0
+IsArming c (Awaits parts) = waiting_at (under c) parts.at parts ≡ arming
+IsArming c (Follows register comp parts) = parts.at ≡ 7
+IsArming c _ = ⊥
+
 -- what ends a turn: the body stands before a yield, or where its trigger is to be armed, or is to end
 abbrev pub IsLast : Shown → Last → Type 0
 IsLast body (Yield spot) = IsBefore body spot stmt.Yield
-IsLast body (Park spot parts) = (body.standing ≡ Within spot.block spot.place (Awaits parts)) × (waiting_at (under body.context) parts.at parts ≡ arming)
+IsLast body (Park spot way) = (body.standing ≡ Within spot.block spot.place way) × IsArming body.context way
 IsLast body (End outcome) = body.standing ≡ Ending outcome
 
+-- how many triggers may still be made
+abbrev pub triggers_left : Sight (Option Tree) → ℕ
+triggers_left port = port.origin.world.limits.triggers - length (world port.origin port.front).triggers
+
+-- how much a turn may still do: a wait for a computation makes a trigger each time that it looks
+abbrev pub weight_in : Sight (Option Tree) → Shown → ℕ
+weight_in port body = weight body + triggers_left port
+
 -- the turn goes on, with less to do, or its last call is next, with no more to do
-abbrev pub IsStep : Shown → Shown → Option Last → Type 0
-IsStep old new None = weight new < weight old
-IsStep old new (Some last) = IsLast new last × (weight new ≤ weight old)
+abbrev pub IsStep : Sight (Option Tree) → Sight (Option Tree) → Shown → Shown → Option Last → Type 0
+IsStep port later old new None = weight new < weight old
+IsStep port later old new (Some last) = IsLast new last × (weight_in later new ≤ weight_in port old)
 
 -- the statement is one of a program that is run: it is built, and keeps to what each statement keeps to
 pub record CanRun (script : Tree) (one : Stmt) : Type 0 where

@@ -8,8 +8,10 @@ use Rattle.pic_machine.specs.declared.entry.Reply.TheVariants.{Completed, Full, 
 use Rattle.pic_machine.specs.Happened.{Happened}
 use Rattle.pic_machine.specs.Log.{own}
 use Rattle.pic_machine.specs.Order.{yields}
+use Rattle.pic_base.specs.declared.outcome.Outcome.TheVariants.{Returned, Cancelled}
 use Rattle.pic_machine.specs.declared.waits.Standing.{Standing as Under}
-use Rattle.pic_machine.specs.Waits.{Waiting, arming, attaching, checking, over, taken, told, waiting_asks, woken}
+use Rattle.pic_machine.specs.Following.{Following, finished as done, following_asks, following_leads, peeking, placing as placed, readying, refused, suspending as suspended}
+use Rattle.pic_machine.specs.Waits.{Waiting, arming, attaching, checking, full, made, over, place as making_place, taken, told, trigger as making_trigger, waiting_asks, woken}
 use Rattle.std.specs.Option.{option_map}
 use Rattle.std.specs.Prelude.{⊤}
 use Rattle.pic_machine.proofs.Turnings.{yields-append}
@@ -22,7 +24,7 @@ use Rattle.fiber_body.specs.Context.{Context, Numbering, Setting, comp_in, numbe
 use Rattle.fiber_body.specs.Fits.{Fits, MayBeOf, setting_of}
 use Rattle.fiber_body.specs.Follows.{context_of}
 use Rattle.fiber_body.specs.Framing.{leads_segment}
-use Rattle.fiber_body.specs.Phases.{Attaching, Awaiting, Phase, answers, attaches, attaches_to, awaits_trigger, branches, calls, catching, ended, ending, ends, finds_no_place, gone, lives, looking, looks, places, placing, repeating, suspending, tries, unplaced}
+use Rattle.fiber_body.specs.Phases.{Attaching, Awaiting, Phase, answers, attaches, attaches_to, awaits_comp, awaits_trigger, branches, calls, catching, ended, ending, ends, finds_no_place, gone, lives, looking, looks, places, placing, repeating, suspending, tries, unplaced}
 use Rattle.fiber_body.specs.Segments.{Acts, CanBegin, Extent, Runs, and_more, and_out, begun, ends_so, goes, happens, leaves_it, makes, stops_inside}
 use Rattle.fiber_body.specs.Shown.{Shown}
 use Rattle.fiber_body.specs.Statements.{begins, born, named, replied}
@@ -60,6 +62,7 @@ begins_small numbers c (stmt.Await t) = named_small c (slice_get numbers.trigger
 begins_small numbers c (stmt.Attach r comp t) =
     named_small c (comp_in numbers.comps comp) (stmt.Attach r comp t) (λ k. named (slice_get numbers.triggers t) (stmt.Attach r comp t) (λ n. attaches_to r k n looks))
     (λ k. named_small c (slice_get numbers.triggers t) (stmt.Attach r comp t) (λ n. attaches_to r k n looks) (λ n. (omega arith, omega arith)))
+begins_small numbers c (stmt.Wait r comp) = named_small c (comp_in numbers.comps comp) (stmt.Wait r comp) (λ k. awaits_comp r k peeking) (λ k. (omega arith, omega arith))
 begins_small numbers c _ = (omega arith, omega arith)
 
 begins_once : (numbers : Numbering) (c : Context) (one : Stmt) → CanBegin one c → allowance (begins numbers (begun one c) one) + (begun one c).steps ≤ c.steps
@@ -100,9 +103,27 @@ attaching_within c r k t looks = tt
 attaching_within c r k t places = tt
 attaching_within c r k t (attaches place) = tt
 
+following_within : (c : Context) (r k : ℕ) (p : Following) → IsWithin c.steps (settles c (awaits_comp r k p))
+following_within c r k peeking = tt
+following_within c r k (readying making_trigger) = tt
+following_within c r k (readying (making_place t)) = tt
+following_within c r k (readying (made t a)) = tt
+following_within c r k (readying full) = omega arith
+following_within c r k (placed t a b) = tt
+following_within c r k (suspended t (attaching a)) = tt
+following_within c r k (suspended t arming) = tt
+following_within c r k (suspended t checking) = tt
+following_within c r k (suspended t (over woken)) = tt
+following_within c r k (suspended t (over (told code))) = tt
+following_within c r k (suspended t (over taken)) = omega arith
+following_within c r k (done (Returned v)) = omega arith
+following_within c r k (done (Cancelled code)) = omega arith
+following_within c r k (refused code) = omega arith
+
 rows_within : (c : Context) (p : Phase) → IsWithin (steps_in p c) (settles c p)
 rows_within c (awaits_trigger t p) = awaiting_within c t p
 rows_within c (attaches_to r k t p) = attaching_within c r k t p
+rows_within c (awaits_comp r k p) = following_within c r k p
 rows_within c (branches None) = omega arith
 rows_within c (branches (Some block)) = omega arith
 rows_within c (repeating block Next) = next_within (nat_lt 0 c.steps) block c
@@ -158,6 +179,22 @@ attaching_no_yield k t (attaches place) = tt
 attaching_no_yield k t (answers n) = tt
 attaching_no_yield k t finds_no_place = tt
 
+following_no_yield : (u : Under) (f k : ℕ) (p : Following) → IsNoYield (following_asks u f k p)
+following_no_yield u f k peeking = tt
+following_no_yield u f k (readying making_trigger) = tt
+following_no_yield u f k (readying (making_place t)) = tt
+following_no_yield u f k (readying (made t a)) = tt
+following_no_yield u f k (readying full) = tt
+following_no_yield u f k (placed t a b) = tt
+following_no_yield u f k (suspended t (attaching a)) = tt
+following_no_yield u f k (suspended t arming) = tt
+following_no_yield u f k (suspended t checking) = tt
+following_no_yield u f k (suspended t (over woken)) = tt
+following_no_yield u f k (suspended t (over (told code))) = tt
+following_no_yield u f k (suspended t (over taken)) = tt
+following_no_yield u f k (done o) = tt
+following_no_yield u f k (refused code) = tt
+
 -- a phase of a statement under way, to which a reply leads
 mapped_within : {Inner : Type 0} (c : Context) (up : Inner → Phase) → ((x : Inner) → (allowance (up x) ≡ 0) × (steps_in (up x) c ≤ c.steps)) → (o : Option Inner) (q : Phase) → option_map up o ≡ Some q → (allowance q ≡ 0) × (steps_in q c ≤ c.steps)
 mapped_within c up each None q is = absurd cc
@@ -177,6 +214,10 @@ entry_within s c (awaits_trigger t p) q call reply xs asked led =
 entry_within s c (attaches_to r k t p) q call reply xs asked led =
     let none = yields_no_call s.fiber call reply c xs (subst IsNoYield asked (attaching_no_yield k t p)) in
     let there = mapped_within c (attaches_to r k t) (λ x. (refl, omega arith)) (attaching_leads p reply) q led in
+    (omega (arith, none, there.0), there.1)
+entry_within s c (awaits_comp r k p) q call reply xs asked led =
+    let none = yields_no_call s.fiber call reply c xs (subst IsNoYield asked (following_no_yield (under c) s.fiber k p)) in
+    let there = mapped_within c (awaits_comp r k) (λ x. (refl, omega arith)) (following_leads (under c) p reply) q led in
     (omega (arith, none, there.0), there.1)
 entry_within s c (ending o ends) q call reply xs asked led =
     let same : ending o gone ≡ q = cc in

@@ -53,7 +53,9 @@ fn is_built_stmt(stmt: &Stmt) -> bool
         Stmt::Return(_, comp, _) | Stmt::Cancel(_, comp, _) | Stmt::Peek(_, _, comp) => {
             is_built_comp(*comp)
         }
-        Stmt::Attach(_, comp, _) | Stmt::Detach(comp, _) => is_built_comp(*comp),
+        Stmt::Attach(_, comp, _) | Stmt::Detach(comp, _) | Stmt::Wait(_, comp) => {
+            is_built_comp(*comp)
+        }
         _ => false,
     }
 }

@@ -6,15 +6,16 @@ ghost use Rattle.script_tree.specs.Tree.{Tree};
 ghost use Rattle.pic_machine.specs.Turning.{Polled};
 ghost use Rattle.fiber_body.specs.Fits.{Fits};
 ghost use Rattle.fiber_body.specs.Shown.{carry_of, stood as stood_at};
-ghost use Rattle.fiber_poll.specs.Moving.{IsBefore, weight};
+ghost use Rattle.fiber_poll.specs.Moving.{IsBefore, arms_at, behind_arming, weight};
 ghost use Rattle.fiber_poll.specs.Polls.{IsPortOf};
 ghost use Rattle.fiber_poll.specs.UnderWay.{IsHandedBack, IsLast, IsOn, IsUp};
 
 use crate::looking::TAKEN_ALREADY;
 use crate::spot::{Last, Spot};
 use fiber_body::{Body, Exit, Standing, UnderWay};
-use pic_base::Outcome;
-use pic_machine::{Carried, ParkRefusal, Parts, Port, PortFault, ReadyLine, Turn};
+use fiber_await::armed;
+use pic_base::{Outcome, TriggerNo};
+use pic_machine::{Carried, ParkRefusal, Port, PortFault, ReadyLine, Turn};
 use script_tree::Stmt;
 
 /// Ends the turn by the yield at this place.
@@ -53,25 +54,25 @@ pub(crate) fn yield_turn<P: Port<Body = Body>, R: ReadyLine>(
     }
 }
 
-/// Suspends the body's fiber until the trigger of these parts is signalled, for which the statement at this
-/// place waits. Where the fiber goes on at once, it answers the body, which stands behind the arming then.
+/// Suspends the body's fiber until the trigger is signalled for which the statement at this place waits, which
+/// stands there. Where the fiber goes on at once, it answers the body, which stands behind the arming then.
 pub(crate) fn park_turn<P: Port<Body = Body>>(
     port: &mut P,
     body: Body,
     spot: Spot,
-    parts: Parts,
+    way: UnderWay,
 ) -> Result<Body, Turn<Body>>
     requires port_of { (script : Tree) × IsPortOf script (P.sight port.old) }
     requires up { IsUp (P.sight port.old) body }
     requires free { body.owes ≡ [] }
-    requires parks { IsLast body (Last.Park spot parts) }
+    requires parks { IsLast body (Last.Park spot way) }
     ensures on { IfOk result (λ awake. (told : Option (List ℕ)) → IsOn (P.sight port.old) (P.sight port.new) body awake told told) }
     ensures lighter { IfOk result (λ awake. weight awake < weight body) }
     ensures free { IfOk result (λ awake. awake.owes ≡ []) }
     ensures calm { OnOk result (Calm (P.sight port.old) (P.sight port.new)) }
     ensures over { IfErr result (λ turn. (told : Option (List ℕ)) → Polled turn carry_of Fits (P.sight port.old) (P.sight port.new) (carry_of body) told told) }
 {
-    let Some(trigger) = parts.trigger else {
+    let Some(trigger) = arms_at(way) else {
         unreachable!("the wait has a trigger");
     };
     let mut body = body;
@@ -79,23 +80,45 @@ pub(crate) fn park_turn<P: Port<Body = Body>>(
         return Err(Turn::Memory(body));
     }
     let steps = body.steps();
-    body.stand(spot.within(UnderWay::Awake(trigger)), steps);
+    body.stand(spot.within(behind_arming(way, trigger)), steps);
     match port.park(trigger, body) {
         Ok(()) => Err(Turn::Parked),
         Err((body, ParkRefusal::Signalled)) => Ok(body),
         Err((body, ParkRefusal::Taken)) => {
             Ok(stood(body, spot.behind(Exit::Raised(TAKEN_ALREADY)), steps))
         }
-        Err((body, ParkRefusal::Again)) => Err(Turn::Again(stood(
-            body,
-            spot.within(UnderWay::Awaits(parts)),
-            steps,
-        ))),
-        Err((body, ParkRefusal::Memory)) => Err(Turn::Memory(stood(
-            body,
-            spot.within(UnderWay::Awaits(parts)),
-            steps,
-        ))),
+        Err((body, ParkRefusal::Again)) => Err(Turn::Again(stood(body, spot.within(way), steps))),
+        Err((body, ParkRefusal::Memory)) => Err(Turn::Memory(stood(body, spot.within(way), steps))),
+    }
+}
+
+/// The trigger that is to be armed next, where the fiber waits for one.
+fn arms_at(way: UnderWay) -> Option<TriggerNo>
+    ensures { result ≡ arms_at way }
+{
+    match way {
+        UnderWay::Awaits(parts) => parts.trigger,
+        UnderWay::Follows { parts, .. } => parts.trigger,
+        _ => None,
+    }
+}
+
+/// Where the fiber goes on once this trigger was armed.
+fn behind_arming(way: UnderWay, trigger: TriggerNo) -> UnderWay
+    ensures { result ≡ behind_arming way trigger }
+{
+    match way {
+        UnderWay::Awaits(_) => UnderWay::Awake(trigger),
+        UnderWay::Follows {
+            register,
+            comp,
+            parts,
+        } => UnderWay::Follows {
+            register,
+            comp,
+            parts: armed(parts),
+        },
+        other => other,
     }
 }
 

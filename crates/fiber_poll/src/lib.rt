@@ -9,6 +9,7 @@
 
 mod blocks;
 mod calls;
+mod follow;
 mod forms;
 mod last;
 mod looking;

@@ -60,7 +60,7 @@ impl<P: Port<Body = Body>> Poller<P> for ScriptPoller {
             match run_turn(self, port, line, &mut body) {
                 Ok(Last::Yield(spot)) => return yield_turn(port, line, body, spot),
                 Ok(Last::End(outcome)) => return end_turn(port, body, outcome),
-                Ok(Last::Park(spot, parts)) => match park_turn(port, body, spot, parts) {
+                Ok(Last::Park(spot, way)) => match park_turn(port, body, spot, way) {
                     Ok(awake) => body = awake,
                     Err(turn) => return turn,
                 },

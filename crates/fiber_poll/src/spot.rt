@@ -3,7 +3,6 @@ ghost use Rattle.fiber_poll.specs.Moving.{behind_at};
 
 use fiber_body::{Exit, Standing, UnderWay};
 use pic_base::Outcome;
-use pic_machine::Parts;
 
 /// A place in a block: that of a statement, or the block's end.
 #[derive(Clone, Copy)]
@@ -54,8 +53,8 @@ impl Spot {
 pub(crate) enum Last {
     /// A yield, the statement at this place.
     Yield(Spot),
-    /// The arming of the trigger for which the statement at this place waits with these parts.
-    Park(Spot, Parts),
+    /// The arming of the trigger for which the statement at this place waits, which stands there.
+    Park(Spot, UnderWay),
     /// The fiber's end, with this outcome.
     End(Outcome),
 }

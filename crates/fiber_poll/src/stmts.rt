@@ -12,6 +12,7 @@ ghost use Rattle.script_tree.specs.Tree.{Tree};
 
 use crate::blocks::enter;
 use crate::calls::{call_of, take};
+use crate::follow::begin_wait;
 use crate::looking::{begin_attach, begin_await};
 use crate::making::make;
 use crate::owed::{brings_duties, discharge};
@@ -79,6 +80,10 @@ pub(crate) fn begin_calls<P: Port<Body = Body>, R: ReadyLine>(
         Stmt::Await(trigger) => begin_await(poller, port, body, spot, *trigger),
         Stmt::Attach(register, comp, trigger) => {
             begin_attach(poller, port, body, spot, *register, *comp, *trigger)
+        }
+        Stmt::Wait(register, comp) => {
+            begin_wait(poller, body, spot, *register, *comp);
+            Ok(())
         }
         _ => call(poller, port, line, body, spot, stmt),
     }

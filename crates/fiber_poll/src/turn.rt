@@ -1,9 +1,9 @@
 //! The part of a turn before its last call: statements, one by one.
 ghost use Rattle.std.specs.Prelude.{◌≡◌, ◌<◌, ◌≤◌, ℕ, [], Some, IfErr, IfOk, OnOk};
 ghost use Rattle.pic_machine.specs.Lending.{Calm, Faulted};
-ghost use Rattle.fiber_poll.specs.Moving.{IsAt, IsWaiting, weight};
+ghost use Rattle.fiber_poll.specs.Moving.{IsAt, IsWaiting};
 ghost use Rattle.fiber_poll.specs.Polls.{IsPortOf};
-ghost use Rattle.fiber_poll.specs.UnderWay.{CanRun, IsLast, IsOn, IsStep, IsUp};
+ghost use Rattle.fiber_poll.specs.UnderWay.{CanRun, IsLast, IsOn, IsStep, IsUp, weight_in};
 
 use crate::blocks::leave;
 use crate::owed::discharge;
@@ -28,7 +28,8 @@ pub(crate) fn run_turn<P: Port<Body = Body>, R: ReadyLine>(
     requires port_of { IsPortOf poller.now (P.sight port.old) }
     requires up { IsUp (P.sight port.old) body.old }
     ensures on { IsOn (P.sight port.old) (P.sight port.new) body.old body.new (R.told line.old) (R.told line.new) }
-    ensures last { IfOk result (λ last. IsLast body.new last × (weight body.new ≤ weight body.old)) }
+    ensures last { IfOk result (λ last. IsLast body.new last
+        × (weight_in (P.sight port.new) body.new ≤ weight_in (P.sight port.old) body.old)) }
     ensures free { OnOk result (body.new.owes ≡ []) }
     ensures calm { OnOk result (Calm (P.sight port.old) (P.sight port.new)) }
     ensures gave_up { IfErr result (λ fault. Faulted fault (P.sight port.old) (P.sight port.new)) }
@@ -48,7 +49,8 @@ fn run_on<P: Port<Body = Body>, R: ReadyLine>(
     requires up { IsUp (P.sight port.old) body.old }
     requires free { body.old.owes ≡ [] }
     ensures on { IsOn (P.sight port.old) (P.sight port.new) body.old body.new (R.told line.old) (R.told line.new) }
-    ensures last { IfOk result (λ last. IsLast body.new last × (weight body.new ≤ weight body.old)) }
+    ensures last { IfOk result (λ last. IsLast body.new last
+        × (weight_in (P.sight port.new) body.new ≤ weight_in (P.sight port.old) body.old)) }
     ensures free { OnOk result (body.new.owes ≡ []) }
     ensures calm { OnOk result (Calm (P.sight port.old) (P.sight port.new)) }
     ensures gave_up { IfErr result (λ fault. Faulted fault (P.sight port.old) (P.sight port.new)) }
@@ -59,7 +61,7 @@ fn run_on<P: Port<Body = Body>, R: ReadyLine>(
             Standing::Ended => unreachable!("the fiber is live"),
             Standing::Out(exit) => leave(body, exit),
             Standing::Within { block, place, way } => {
-                if let Some(last) = go_on(port, body, Spot { block, place }, way)? {
+                if let Some(last) = go_on(port, line, body, Spot { block, place }, way)? {
                     return Ok(last);
                 }
             }
@@ -88,7 +90,7 @@ fn run_from<P: Port<Body = Body>, R: ReadyLine>(
     requires free { body.old.owes ≡ [] }
     requires at { body.old.standing ≡ Standing.At block place }
     ensures on { IsOn (P.sight port.old) (P.sight port.new) body.old body.new (R.told line.old) (R.told line.new) }
-    ensures step { IfOk result (λ last. IsStep body.old body.new last) }
+    ensures step { IfOk result (λ last. IsStep (P.sight port.old) (P.sight port.new) body.old body.new last) }
     ensures free { OnOk result (body.new.owes ≡ []) }
     ensures calm { OnOk result (Calm (P.sight port.old) (P.sight port.new)) }
     ensures gave_up { IfErr result (λ fault. Faulted fault (P.sight port.old) (P.sight port.new)) }
@@ -123,7 +125,7 @@ fn begin<P: Port<Body = Body>, R: ReadyLine>(
     requires waits { 0 < body.old.context.steps → IsWaiting body.old.context stmt.now }
     requires can { CanRun poller.now stmt.now }
     ensures on { IsOn (P.sight port.old) (P.sight port.new) body.old body.new (R.told line.old) (R.told line.new) }
-    ensures step { IfOk result (λ last. IsStep body.old body.new last) }
+    ensures step { IfOk result (λ last. IsStep (P.sight port.old) (P.sight port.new) body.old body.new last) }
     ensures free { OnOk result (body.new.owes ≡ []) }
     ensures calm { OnOk result (Calm (P.sight port.old) (P.sight port.new)) }
     ensures gave_up { IfErr result (λ fault. Faulted fault (P.sight port.old) (P.sight port.new)) }

@@ -13,20 +13,22 @@ ghost use Rattle.fiber_poll.specs.Polls.{IsPortOf};
 ghost use Rattle.fiber_poll.specs.UnderWay.{IsOn, IsStep, IsUp};
 
 use crate::calls::LIMIT_MET;
+use crate::follow::follow;
 use crate::spot::{Last, Spot};
 use crate::values::attached;
 use fiber_await::{Ahead, attach, new_place, suspend, unsuspend};
 use fiber_body::{Body, Exit, Standing, UnderWay};
 use pic_base::{CompNo, PlaceNo, TriggerNo};
-use pic_machine::{Call, Parts, Port, PortFault};
+use pic_machine::{Call, Parts, Port, PortFault, ReadyLine};
 
 /// The stage of the parts of a wait that has all it needs.
 pub(crate) const READY: u8 = 2;
 
 /// Goes on with the statement at this place, which is under way. Where the trigger for which it waits is to be
 /// armed next, it says so.
-pub(crate) fn go_on<P: Port<Body = Body>>(
+pub(crate) fn go_on<P: Port<Body = Body>, R: ReadyLine>(
     port: &mut P,
+    line: &mut R,
     body: &mut Body,
     spot: Spot,
     way: UnderWay,
@@ -35,8 +37,8 @@ pub(crate) fn go_on<P: Port<Body = Body>>(
     requires up { IsUp (P.sight port.old) body.old }
     requires free { body.old.owes ≡ [] }
     requires within { body.old.standing ≡ Standing.Within spot.block spot.place way }
-    ensures on { (told : Option (List ℕ)) → IsOn (P.sight port.old) (P.sight port.new) body.old body.new told told }
-    ensures step { IfOk result (λ last. IsStep body.old body.new last) }
+    ensures on { IsOn (P.sight port.old) (P.sight port.new) body.old body.new (R.told line.old) (R.told line.new) }
+    ensures step { IfOk result (λ last. IsStep (P.sight port.old) (P.sight port.new) body.old body.new last) }
     ensures free { OnOk result (body.new.owes ≡ []) }
     ensures calm { OnOk result (Calm (P.sight port.old) (P.sight port.new)) }
     ensures gave_up { IfErr result (λ fault. Faulted fault (P.sight port.old) (P.sight port.new)) }
@@ -57,6 +59,11 @@ pub(crate) fn go_on<P: Port<Body = Body>>(
             trigger,
             place: Some(place),
         } => attach_at(port, body, spot, register, comp, trigger, place)?,
+        UnderWay::Follows {
+            register,
+            comp,
+            parts,
+        } => return follow(port, line, body, spot, register, comp, parts),
     }
     Ok(None)
 }
@@ -133,7 +140,7 @@ fn wait<P: Port<Body = Body>>(
     requires free { body.old.owes ≡ [] }
     requires within { body.old.standing ≡ Standing.Within spot.block spot.place (UnderWay.Awaits parts) }
     ensures on { (told : Option (List ℕ)) → IsOn (P.sight port.old) (P.sight port.new) body.old body.new told told }
-    ensures step { IfOk result (λ last. IsStep body.old body.new last) }
+    ensures step { IfOk result (λ last. IsStep (P.sight port.old) (P.sight port.new) body.old body.new last) }
     ensures free { OnOk result (body.new.owes ≡ []) }
     ensures calm { OnOk result (Calm (P.sight port.old) (P.sight port.new)) }
     ensures gave_up { IfErr result (λ fault. Faulted fault (P.sight port.old) (P.sight port.new)) }
@@ -142,8 +149,9 @@ fn wait<P: Port<Body = Body>>(
     let under = body.waits_under();
     match suspend(port, body, &under, &mut parts)? {
         Ahead::Go => {
-            body.stand(spot.within(UnderWay::Awaits(parts)), body.steps());
-            Ok(Some(Last::Park(spot, parts)))
+            let way = UnderWay::Awaits(parts);
+            body.stand(spot.within(way), body.steps());
+            Ok(Some(Last::Park(spot, way)))
         }
         Ahead::Cancelled(code) => {
             body.stand(spot.behind(Exit::Raised(code)), body.steps());

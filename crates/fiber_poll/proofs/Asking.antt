@@ -181,7 +181,7 @@ module _ (tree : Tree) (c : Context) where
       subst (λ (o : Option ℕ). begins_named o one (λ n. attaches_to r found.0 n looks) ≡ calls one) trigger.1
       (subst (λ (o : Option ℕ). begins_named o one (λ k. begins_named (slice_get triggers place) one (λ n. attaches_to r k n looks)) ≡ calls one) found.1 is) in cc)
   asks_by holder (stmt.Wait r comp) fits built none is apart =
-      let found = comp_there tree comp fits.1 built in
+      let found = comp_there tree comp fits.1.0 built in
       absurd (let there : awaits_comp r found.0 peeking ≡ calls (stmt.Wait r comp) = subst (λ (o : Option ℕ). begins_named o (stmt.Wait r comp) (λ k. awaits_comp r k peeking) ≡ calls (stmt.Wait r comp)) found.1 is in cc)
   asks_by holder _ fits built none is apart = first_of (search (named, signalled, fits, built), cc)
 

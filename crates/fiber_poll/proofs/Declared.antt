@@ -1,10 +1,13 @@
 -- What statements name that look at a trigger first is declared, and stands.
-use Rattle.std.proofs.Common.{◌≡◌, ◌≢◌, ℕ, ◌-◌, ◌≤◌, Option, Some, None, List, [], ◌∷◌, slice_get, refl, sym, ap, subst, ◌∙◌, arith}
+use Rattle.std.proofs.Common.{◌≡◌, ◌≢◌, ℕ, ◌-◌, ◌<◌, ◌≤◌, Option, Some, None, List, [], ◌∷◌, slice_get, refl, sym, ap, subst, ◌∙◌, arith}
 use Rattle.pic_machine.specs.declared.entry.Call.TheVariants as asked
 use Rattle.pic_machine.specs.declared.entry.Reply.TheVariants as reply
 use Rattle.pic_machine.specs.declared.state.TrigState.{TrigState}
 use Rattle.pic_machine.specs.declared.state.TrigState.TheVariants as trig
+use Rattle.std.specs.Prelude.{IfSome}
+use Rattle.pic_machine.specs.Happened.{Happened}
 use Rattle.pic_machine.specs.History.{event}
+use Rattle.pic_machine.specs.Log.{log, own}
 use Rattle.pic_machine.specs.Sight.{Sight, fiber_of}
 use Rattle.fiber_await.specs.Doing.{Did}
 use Rattle.script_tree.specs.declared.program.CompRef.{CompRef}
@@ -13,20 +16,21 @@ use Rattle.script_tree.specs.declared.program.Stmt.TheVariants as stmt
 use Rattle.script_tree.specs.declared.thing.Sort.TheVariants as sort
 use Rattle.script_tree.specs.Tree.{Tree}
 use Rattle.fiber_body.specs.declared.standing.Standing.{Standing}
-use Rattle.fiber_body.specs.declared.standing.Standing.TheVariants.{Within}
-use Rattle.fiber_body.specs.declared.under_way.UnderWay.TheVariants.{Attaches}
+use Rattle.fiber_body.specs.declared.standing.Standing.TheVariants.{At, Within}
+use Rattle.fiber_body.specs.declared.under_way.UnderWay.TheVariants.{Attaches, Follows}
 use Rattle.fiber_body.specs.Context.{Context, Numbering, comp_in, count_of, numbering, with_register}
-use Rattle.fiber_body.specs.Owns.{IsDeclared, OwnsAttachment}
+use Rattle.fiber_body.specs.Owns.{IsDeclared, OwnsAttachment, OwnsFollowing}
 use Rattle.fiber_body.specs.Phases.{calls}
 use Rattle.fiber_body.specs.Statements.{first}
 use Rattle.fiber_body.specs.Shown.{IsSameRest, Shown, carry_of, stood}
 use Rattle.fiber_body.specs.Texts.{script_in}
 use Rattle.fiber_poll.specs.declared.spot.Spot.{Spot}
-use Rattle.fiber_poll.specs.Moving.{HasCall, IsBefore, behind_at, seen_by_wait}
+use Rattle.fiber_poll.specs.Moving.{HasCall, IsBefore, behind_at, seen_by_wait, unmade, weight, weight_at}
 use Rattle.fiber_poll.specs.Polls.{IsPortOf}
 use Rattle.fiber_poll.specs.UnderWay.{CanRun, IsOn, IsUp}
 use Rattle.fiber_body.specs.declared.standing.Exit.TheVariants.{Next}
 use Rattle.fiber_poll.proofs.Asking.{comp_there, numbered}
+use Rattle.fiber_poll.proofs.Followed.{on_wait_begun}
 use Rattle.fiber_poll.proofs.Going.{program_up}
 use Rattle.fiber_poll.proofs.Looks.{NamesBoth, on_looked, on_seen, on_signalled}
 
@@ -105,3 +109,42 @@ module _ (tree : Tree) where
     attach_looked r comp place k t state steps there can before comp_is trigger_is other did same there_is left is =
         on_looked a b line spot r comp place k t state steps there up before (names_both a of up comp place k t comp_is trigger_is)
         (subst (λ (tr : Tree). OwnsAttachment tr r k t) (sym (program_is a of up)) (attach_owned r comp place k t can comp_is trigger_is)) other did same there_is left is
+
+  -- ---- wait
+
+  pub wait_comp : (r : ℕ) (comp : CompRef) → CanRun tree (stmt.Wait r comp) → (k : ℕ) × (comp_in (numbering tree.decls).comps comp ≡ Some k) × (k ≤ count_of sort.Comp tree.decls)
+  wait_comp r comp can = comp_there tree comp can.fits.1.0 can.built
+
+  -- a wait of which nothing is made
+  nothing_made : (f r k : ℕ) (mine : List Happened) → r < 16 → k ≤ count_of sort.Comp tree.decls → OwnsFollowing tree f mine r k unmade
+  nothing_made f r k mine register comp = record { register = register; comp = comp; on = record { at = omega arith; going = λ is. cc; has = tt } }
+
+  pub wait_begun : {p : Sight (Option Tree)} (a : Shown) {d : Shown} (line : Option (List ℕ)) (spot : Spot) (r : ℕ) (comp : CompRef) → IsPortOf tree p → IsUp p a → CanRun tree (stmt.Wait r comp) → IsBefore a spot (stmt.Wait r comp)
+      → IfSome (comp_in (numbering tree.decls).comps comp) (λ k. d ≡ stood a (Within spot.block spot.place (Follows r k unmade)) (a.context.steps - 1)) → IsOn p p a d line line
+  wait_begun {p} a {d} line spot r comp of up can before begun =
+      let found = wait_comp r comp can in
+      let k = found.0 in
+      let f = fiber_of (carry_of a) in
+      let program = sym (program_is a of up) in
+      on_wait_begun a line spot r comp k up before (subst (λ (tr : Tree). comp_in (numbering tr.decls).comps comp ≡ Some k) program found.1)
+      (subst (λ (tr : Tree). OwnsFollowing tr f (own (log p.front f)) r k unmade) program (nothing_made f r k (own (log p.front f)) can.fits.0 found.2))
+      (subst (λ (o : Option ℕ). IfSome o (λ n. d ≡ stood a (Within spot.block spot.place (Follows r n unmade)) (a.context.steps - 1))) found.1 begun)
+
+  -- it begins so, with less to do, and owes what it owed
+  begun_so : (a d : Shown) (spot : Spot) (r : ℕ) (comp : CompRef) → CanRun tree (stmt.Wait r comp) → IfSome (comp_in (numbering tree.decls).comps comp) (λ k. d ≡ stood a (Within spot.block spot.place (Follows r k unmade)) (a.context.steps - 1))
+      → (k : ℕ) × (d ≡ stood a (Within spot.block spot.place (Follows r k unmade)) (a.context.steps - 1))
+  begun_so a d spot r comp can begun =
+      let found = wait_comp r comp can in
+      (found.0, subst (λ (o : Option ℕ). IfSome o (λ n. d ≡ stood a (Within spot.block spot.place (Follows r n unmade)) (a.context.steps - 1))) found.1 begun)
+
+  pub wait_lighter : (a d : Shown) (spot : Spot) (r : ℕ) (comp : CompRef) → CanRun tree (stmt.Wait r comp) → a.standing ≡ At spot.block spot.place → 0 < a.context.steps
+      → IfSome (comp_in (numbering tree.decls).comps comp) (λ k. d ≡ stood a (Within spot.block spot.place (Follows r k unmade)) (a.context.steps - 1)) → weight d < weight a
+  wait_lighter a d spot r comp can at some begun =
+      let so = begun_so a d spot r comp can begun in
+      let there : weight d ≡ weight (stood a (Within spot.block spot.place (Follows r so.0 unmade)) (a.context.steps - 1)) = ap weight so.1 in
+      let was : weight_at a.standing ≡ 2 = ap weight_at at in
+      omega (arith, there, was, some)
+
+  pub wait_owes : (a d : Shown) (spot : Spot) (r : ℕ) (comp : CompRef) → CanRun tree (stmt.Wait r comp)
+      → IfSome (comp_in (numbering tree.decls).comps comp) (λ k. d ≡ stood a (Within spot.block spot.place (Follows r k unmade)) (a.context.steps - 1)) → d.owes ≡ a.owes
+  wait_owes a d spot r comp can begun = ap (λ (z : Shown). z.owes) (begun_so a d spot r comp can begun).1

@@ -56,7 +56,7 @@ module _ (tree : Tree) {p : Sight (Option Tree)} {a : Shown} where
       may_make up free (here.1, comp_stands of k comp, trigger_stands of t (declared_here t of up kept.0.trigger)) tt here.0
 
   -- the current computation stands
-  current_here : (u : Under) → IsPortOf tree p → IsUp p a → u.current ≡ a.birth.current → u.current < length (world p.origin p.front).comps
+  pub current_here : (u : Under) → IsPortOf tree p → IsUp p a → u.current ≡ a.birth.current → u.current < length (world p.origin p.front).comps
   current_here u of up same =
       subst (λ (k : ℕ). k < length (world p.origin p.front).comps) (sym same)
       (current_stands p.origin p.front (fiber_of (carry_of a)) a.birth up.holds.legal of.main (up.holds.birth up.fiber))

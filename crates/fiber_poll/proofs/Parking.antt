@@ -1,5 +1,5 @@
 -- Arming the trigger for which a statement waits: where the fiber is suspended, and where it goes on at once.
-use Rattle.std.proofs.Common.{◌≡◌, ℕ, Option, Some, List, [], ◌∷◌, ◌++◌, refl, sym, ap, subst, ◌∙◌}
+use Rattle.std.proofs.Common.{◌≡◌, ℕ, Option, Some, List, [], ◌∷◌, ◌++◌, ◌<◌, ◌==◌, cond, length, refl, sym, ap, subst, ◌∙◌, arith}
 use Rattle.std.specs.Prelude.{unwrap_or}
 use Rattle.pic_base.specs.declared.action.Action.TheVariants.{Resume}
 use Rattle.pic_machine.specs.declared.entry.ArmReply.{ArmReply}
@@ -20,6 +20,7 @@ use Rattle.fiber_await.proofs.Calling.{IsQuiet, did_called}
 use Rattle.fiber_await.proofs.Owning.{armed_follows}
 use Rattle.script_tree.specs.Tree.{Tree}
 use Rattle.fiber_body.specs.declared.standing.Exit.TheVariants.{Raised}
+use Rattle.fiber_body.specs.declared.standing.Frame.{Frame}
 use Rattle.fiber_body.specs.declared.standing.Standing.{Standing}
 use Rattle.fiber_body.specs.declared.standing.Standing.TheVariants.{Within}
 use Rattle.fiber_body.specs.declared.under_way.UnderWay.{UnderWay}
@@ -34,7 +35,7 @@ use Rattle.fiber_body.specs.Texts.{script_in}
 use Rattle.fiber_body.specs.Triggers.{phase_of, under}
 use Rattle.fiber_poll.specs.declared.spot.Spot.{Spot}
 use Rattle.fiber_poll.specs.declared.spot.Last.TheVariants.{Park}
-use Rattle.fiber_poll.specs.Moving.{arms_at, behind_arming, behind_at}
+use Rattle.fiber_poll.specs.Moving.{arms_at, behind_arming, behind_at, weight, weight_at, weight_of}
 use Rattle.fiber_poll.specs.UnderWay.{IsArming, IsLast, IsOn, IsUp}
 use Rattle.fiber_poll.proofs.Amid.{LeadsAmid, Reached, amid_entry, amid_standing, ends, on_amid, stands}
 use Rattle.fiber_poll.proofs.Stages.{KeptBehind, within_up}
@@ -152,9 +153,6 @@ module _ (a : Shown) {moved back : Shown} (there : Standing) (n : ℕ) (set : mo
 
 module _ {p q : Sight (Option Tree)} {a moved back : Shown} (line : Option (List ℕ)) (spot : Spot) (way : UnderWay) (t n : ℕ) (up : IsUp p a) (parking : IsParking p a spot way t) (free : a.owes ≡ [])
     (set : moved ≡ stood a (Within spot.block spot.place (behind_arming way t)) n) (left : n ≡ a.context.steps) (same : IsSameRest moved back) where
-  abbrev ahead : Standing
-  ahead = Within spot.block spot.place (behind_arming way t)
-
   -- the call was made with the body set ahead
   called_set : (re : ArmReply) → Called p q (carry_of moved) (carry_of back) (arms moved t) (Armed re) → Called p q (carry_of a) (carry_of back) (arms a t) (Armed re)
   called_set re called = subst (λ (z : Shown). Called p q (carry_of z) (carry_of back) (arms z t) (Armed re)) set called
@@ -166,16 +164,34 @@ module _ {p q : Sight (Option Tree)} {a moved back : Shown} (line : Option (List
   -- since its trigger was signalled
   pub on_awake : Called p q (carry_of moved) (carry_of back) (arms moved t) (Armed arm.Signalled) → IsOn p q a back line line
   on_awake called =
-      on_armed a back line spot way t arm.Signalled (phase_of a.context (behind_arming way t)) up parking free (record { brings = tt; on = refl; none = λ f. refl; within = refl }) parking.signalled (called_set arm.Signalled called) (frames_set a ahead n set left same)
-      (stands (behind_arming way t) refl (parking.keeps (event (fiber_of (carry_of a)) (arms a t) (Armed arm.Signalled))) (back_is a ahead n set left same))
+      on_armed a back line spot way t arm.Signalled (phase_of a.context (behind_arming way t)) up parking free (record { brings = tt; on = refl; none = λ f. refl; within = refl }) parking.signalled (called_set arm.Signalled called) (frames_set a (Within spot.block spot.place (behind_arming way t)) n set left same)
+      (stands (behind_arming way t) refl (parking.keeps (event (fiber_of (carry_of a)) (arms a t) (Armed arm.Signalled))) (back_is a (Within spot.block spot.place (behind_arming way t)) n set left same))
 
   -- or was another's
   pub on_taken : {d : Shown} (there : Standing) → Called p q (carry_of moved) (carry_of back) (arms moved t) (Armed arm.Taken) → there ≡ behind_at spot (Raised taken_already) → d ≡ stood back there n → IsOn p q a d line line
   on_taken there called there_is is =
-      on_armed a back line spot way t arm.Taken parking.taken up parking free (record { brings = tt; on = refl; none = λ f. refl; within = refl }) parking.leads_taken (called_set arm.Taken called) (frames_set a ahead n set left same)
+      on_armed a back line spot way t arm.Taken parking.taken up parking free (record { brings = tt; on = refl; none = λ f. refl; within = refl }) parking.leads_taken (called_set arm.Taken called) (frames_set a (Within spot.block spot.place (behind_arming way t)) n set left same)
       (ends (Raised taken_already) a.context parking.raises
-      (is ∙ (ap (λ (st : Standing). stood back st n) there_is ∙ (ap (λ (c : Context). record back { standing = behind_at spot (Raised taken_already); context = record c { steps = n } }) (context_set a ahead n set left same)
+      (is ∙ (ap (λ (st : Standing). stood back st n) there_is ∙ (ap (λ (c : Context). record back { standing = behind_at spot (Raised taken_already); context = record c { steps = n } }) (context_set a (Within spot.block spot.place (behind_arming way t)) n set left same)
       ∙ ap (λ (m : ℕ). record back { standing = behind_at spot (Raised taken_already); context = record a.context { steps = m } }) left))))
+
+-- who goes on at once has less to do
+arming_lighter : (c : Context) (way : UnderWay) (t : ℕ) → IsArming c way → weight_of (behind_arming way t) < weight_of way
+arming_lighter c (Awaits parts) t arms_so = omega arith
+arming_lighter c (Follows r k parts) t arms_so = subst (λ (n : ℕ). 3 < cond (n == 9) 3 4) (sym arms_so) (omega arith)
+arming_lighter c (Places n) t arms_so = absurd arms_so
+arming_lighter c (Awake n) t arms_so = absurd arms_so
+arming_lighter c (Attaches r k n place) t arms_so = absurd arms_so
+
+pub awake_lighter : (a : Shown) {ready moved back : Shown} (spot : Spot) (way : UnderWay) (t n : ℕ) → IsLast a (Park spot way) → IsSameRest a ready → moved ≡ stood ready (Within spot.block spot.place (behind_arming way t)) n
+    → n ≡ ready.context.steps → IsSameRest moved back → weight back < weight a
+awake_lighter a {ready} {moved} {back} spot way t n last rest set left same =
+    let standing : weight_at back.standing ≡ weight_of (behind_arming way t) = ap weight_at (same.standing ∙ ap (λ (z : Shown). z.standing) set) in
+    let steps : back.context.steps ≡ a.context.steps = ap (λ (c : Context). c.steps) same.context ∙ (ap (λ (z : Shown). z.context.steps) set ∙ (left ∙ ap (λ (c : Context). c.steps) rest.context)) in
+    let frames : length back.frames ≡ length a.frames = ap (λ (fs : List Frame). length fs) (same.frames ∙ (ap (λ (z : Shown). z.frames) set ∙ rest.frames)) in
+    let was : weight_at a.standing ≡ weight_of way = ap weight_at last.0 in
+    let less = arming_lighter a.context way t last.1 in
+    omega (arith, standing, steps, frames, was, less)
 
 -- the body as it is set ahead
 pub set_ahead : {set : Shown} {there : Standing} {ahead : UnderWay} (a : Shown) (spot : Spot) (way : UnderWay) (t n : ℕ) → set ≡ stood a there n → there ≡ Within spot.block spot.place ahead → ahead ≡ behind_arming way t

@@ -25,10 +25,11 @@ use Rattle.pic_machine.proofs.Histories.{log-append, world_from-append}
 use Rattle.pic_machine.proofs.Numbers.{made_trigger, triggers_from}
 use Rattle.pic_machine.proofs.Parks.{world_limits}
 use Rattle.script_tree.specs.Tree.{Tree}
-use Rattle.std.specs.Prelude.{unwrap_or}
+use Rattle.std.specs.Prelude.{unwrap_or, IfOk, Result, Ok, Err}
+use Rattle.pic_machine.specs.declared.port.PortFault.{PortFault}
 use Rattle.fiber_await.specs.Doing.{RanTelling}
 use Rattle.fiber_poll.specs.declared.spot.Last.{Last}
-use Rattle.fiber_poll.specs.UnderWay.{IsOn, IsStep, triggers_left, weight_in}
+use Rattle.fiber_poll.specs.UnderWay.{IsLast, IsOn, IsStep, triggers_left, weight_in}
 use Rattle.fiber_poll.specs.Moving.{weight}
 use Rattle.fiber_body.specs.Shown.{Shown, carry_of}
 
@@ -68,7 +69,7 @@ readying_either u call _ m asked led = absurd cc
 
 step_either : (u : Under) (f k : ℕ) (p m : Following) (call : Call) (re : Reply) → IsEarly p → following_asks u f k p ≡ Some call → following_leads u p re ≡ Some m → IsEarly m ⊎ Makes call re
 step_either u f k peeking m call re early asked led = inl (looked_early re m led)
-step_either u f k (readying trigger) m call re early asked led = readying_either u call re m cc led
+step_either u f k (readying trigger) m call re early asked led = (let called : NewTrigger ≡ call = cc in readying_either u call re m called led)
 step_either u f k (readying full) m call re early asked led = absurd cc
 step_either u f k (suspending t checking) m call re early asked led = inl (checked_early u t re m led)
 step_either u f k (suspending t (over woken)) m call re early asked led = inl (looked_early re m led)
@@ -89,10 +90,10 @@ awake_early t false = tt
 -- so it makes one on the way to an arming
 remakes : (u : Under) (f k t : ℕ) {p y : Following} {es : List Happened} → Goes (following u f k) f p es y → y ≡ suspending t arming → IsEarly p → (n : ℕ) × HasMade es f NewTrigger n
 remakes u f k t stays is early = absurd (subst IsEarly is early)
-remakes u f k t {y = y} (goes {p} {m} {hs = hs} call re asked led rest) is early = by (step_either u f k p m call re early asked led) where
-  by : IsEarly m ⊎ Makes call re → (n : ℕ) × HasMade (event f call re ∷ hs) f NewTrigger n
-  by (inl again) = let found = remakes u f k t rest is again in (found.0, record { front = event f call re ∷ found.1.front; back = found.1.back; is = ap (λ (zs : List Happened). event f call re ∷ zs) found.1.is })
-  by (inr makes) = (makes.0, record { front = []; back = hs; is = ap (λ (c : Call). event f c re ∷ hs) makes.2.0 ∙ ap (λ (x : Reply). event f NewTrigger x ∷ hs) makes.2.1 })
+remakes u f k t (goes {p} {m} {hs = hs} call re asked led rest) is early = by (step_either u f k p m call re early asked led) (λ again. remakes u f k t rest is again) where
+  by : IsEarly m ⊎ Makes call re → (IsEarly m → (n : ℕ) × HasMade hs f NewTrigger n) → (n : ℕ) × HasMade (event f call re ∷ hs) f NewTrigger n
+  by (inl again) later = let found = later again in (found.0, record { front = event f call re ∷ found.1.front; back = found.1.back; is = ap (λ (zs : List Happened). event f call re ∷ zs) found.1.is })
+  by (inr makes) later = (makes.0, record { front = []; back = hs; is = ap (λ (c : Call). event f c re ∷ hs) makes.1 ∙ ap (λ (x : Reply). event f NewTrigger x ∷ hs) makes.2 })
 
 -- ---- so there is one less to make
 
@@ -100,7 +101,7 @@ remakes u f k t {y = y} (goes {p} {m} {hs = hs} call re asked led rest) is early
 made_kept : (P : Happened → Bool) (f n : ℕ) (hs front back : List Happened) → filter P hs ≡ front ++ event f NewTrigger (reply.Made n) ∷ back → HasMade hs f NewTrigger n
 made_kept P f n [] [] back is = absurd cc
 made_kept P f n [] (x ∷ front) back is = absurd cc
-made_kept P f n (h ∷ hs) front back is = by (P h) refl front is where
+made_kept P f n (h ∷ hs) front back is = by (P h) refl front is (λ fore. made_kept P f n hs fore back) where
   further : HasMade hs f NewTrigger n → HasMade (h ∷ hs) f NewTrigger n
   further made_later = record { front = h ∷ made_later.front; back = made_later.back; is = ap (λ (zs : List Happened). h ∷ zs) made_later.is }
 
@@ -110,15 +111,16 @@ made_kept P f n (h ∷ hs) front back is = by (P h) refl front is where
   left_first : P h ≡ false → filter P (h ∷ hs) ≡ filter P hs
   left_first left = rw left refl
 
-  by : (kept : Bool) → P h ≡ kept → (front : List Happened) → filter P (h ∷ hs) ≡ front ++ event f NewTrigger (reply.Made n) ∷ back → HasMade (h ∷ hs) f NewTrigger n
-  by true kept [] is =
+  by : (kept : Bool) → P h ≡ kept → (front : List Happened) → filter P (h ∷ hs) ≡ front ++ event f NewTrigger (reply.Made n) ∷ back
+      → ((fore : List Happened) → filter P hs ≡ fore ++ event f NewTrigger (reply.Made n) ∷ back → HasMade hs f NewTrigger n) → HasMade (h ∷ hs) f NewTrigger n
+  by true kept [] is later =
       let both : h ∷ filter P hs ≡ event f NewTrigger (reply.Made n) ∷ back = sym (kept_first kept) ∙ is in
       let same : h ≡ event f NewTrigger (reply.Made n) = cc in
       record { front = []; back = hs; is = ap (λ (z : Happened). z ∷ hs) same }
-  by true kept (x ∷ front) is =
+  by true kept (x ∷ front) is later =
       let both : h ∷ filter P hs ≡ x ∷ (front ++ event f NewTrigger (reply.Made n) ∷ back) = sym (kept_first kept) ∙ is in
-      further (made_kept P f n hs front back (let later : filter P hs ≡ front ++ event f NewTrigger (reply.Made n) ∷ back = cc in later))
-  by false left front is = further (made_kept P f n hs front back (sym (left_first left) ∙ is))
+      further (later front (let tail_is : filter P hs ≡ front ++ event f NewTrigger (reply.Made n) ∷ back = cc in tail_is))
+  by false left front is later = further (later front (sym (left_first left) ∙ is))
 
 -- the number of a trigger is how many there were, and there was room for it
 number_is : (n limit t : ℕ) (room : Bool) → nat_lt n limit ≡ room → reply.Made t ≡ made_below n limit → (t ≡ n) × (n < limit)
@@ -174,11 +176,18 @@ module _ {p q : Sight (Option Tree)} {a b : Shown} {before now : Option (List �
   no_heavier on less = let few = none_more p q on.went.grew.more on.went.grew.later in omega (arith, less, few)
 
 -- a step behind a part that left no more to do
-pub step_after : {p q : Sight (Option Tree)} {a b d : Shown} (last : Option Last) → weight b ≤ weight a → IsStep p q b d last → IsStep p q a d last
-step_after None less step = omega (arith, less, step)
-step_after {p} {q} {a} {b} {d} (Some last) less step =
+pub step_after : (p q : Sight (Option Tree)) (a b d : Shown) (last : Option Last) → weight b ≤ weight a → IsStep p q b d last → IsStep p q a d last
+step_after p q a b d None less step = omega (arith, less, step)
+step_after p q a b d (Some last) less step =
     let most = step.1 in
     (step.0, omega (arith, less, most))
+
+-- the turn's last call behind a part that left no more to do
+pub last_after : (p q r : Sight (Option Tree)) (a b d : Shown) (result : Result Last PortFault) → weight_in q b ≤ weight_in p a → IfOk result (λ last. IsLast d last × (weight_in r d ≤ weight_in q b)) → IfOk result (λ last. IsLast d last × (weight_in r d ≤ weight_in p a))
+last_after p q r a b d (Ok last) less is =
+    let most = is.1 in
+    (is.0, omega (arith, less, most))
+last_after p q r a b d (Err fault) less is = tt
 
 -- a wait for a computation that is to arm again has made a trigger for it
 pub rearms : {p q : Sight (Option Tree)} (a b : Carry (Option Tree)) {before now : Option (List ℕ)} (u : Under) (k : ℕ) (parts later : Parts) → (ran : RanTelling (following u (fiber_of a) k) p q a b before now (following_at u parts.at parts) (following_at u later.at later))

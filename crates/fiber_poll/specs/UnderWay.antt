@@ -1,5 +1,5 @@
 -- What stands while a turn of a script's fiber is under way. Only private contracts cite these words.
-use Rattle.std.specs.Prelude.{◌≡◌, ◌≢◌, ℕ, ◌+◌, ◌-◌, ◌≤◌, ◌<◌, length, IsTrue, Option, Some, None, List, [], ◌∷◌, ⊤}
+use Rattle.std.specs.Prelude.{◌≡◌, ◌≢◌, ℕ, ◌+◌, ◌-◌, ◌≤◌, ◌<◌, length, IsTrue, Result, Ok, Err, Option, Some, None, List, [], ◌∷◌, ⊤}
 use Rattle.pic_machine.specs.declared.entry.Call.{Call}
 use Rattle.pic_machine.specs.declared.entry.Call.TheVariants as call
 use Rattle.pic_machine.specs.declared.entry.Reply.{Reply}
@@ -22,18 +22,23 @@ use Rattle.script_tree.specs.WellFormed.{IsFiberText, StmtFits}
 use Rattle.fiber_body.specs.declared.standing.Standing.TheVariants.{Within, Ending, Ended}
 use Rattle.fiber_body.specs.declared.under_way.UnderWay.{UnderWay}
 use Rattle.fiber_body.specs.declared.under_way.UnderWay.TheVariants.{Awaits, Follows}
-use Rattle.fiber_body.specs.Context.{Context, count_of}
+use Rattle.fiber_await.specs.declared.ahead.CompAhead.{CompAhead}
+use Rattle.fiber_await.specs.declared.ahead.CompAhead.TheVariants as ahead
+use Rattle.pic_base.specs.declared.outcome.Outcome.TheVariants.{Returned, Cancelled}
+use Rattle.fiber_body.specs.declared.standing.Exit.TheVariants.{Next, Raised}
+use Rattle.fiber_body.specs.Context.{Context, count_of, limit_met, with_register}
 use Rattle.fiber_body.specs.Fits.{LeadsTo}
 use Rattle.fiber_body.specs.Owns.{Owns}
 use Rattle.fiber_body.specs.Segments.{happens}
-use Rattle.fiber_body.specs.Shown.{IsSameRest, Shown, carry_of}
+use Rattle.fiber_body.specs.Shown.{IsSameRest, Shown, carry_of, stood}
 use Rattle.fiber_body.specs.Statements.{born}
 use Rattle.fiber_body.specs.Texts.{script_in}
 use Rattle.fiber_body.specs.Triggers.{under}
 use Rattle.fiber_poll.specs.declared.spot.Last.{Last}
+use Rattle.fiber_poll.specs.declared.spot.Spot.{Spot}
 use Rattle.fiber_poll.specs.declared.spot.Last.TheVariants.{Yield, Park, End}
 use Rattle.fiber_poll.specs.Built.{is_built_stmt}
-use Rattle.fiber_poll.specs.Moving.{IsBefore, weight}
+use Rattle.fiber_poll.specs.Moving.{IsBefore, behind_at, weight}
 
 -- the port has the body of a fiber out, and the fiber's own log leads to where the body stands, which isn't behind
 -- its end, and made what the body keeps there for itself
@@ -73,6 +78,19 @@ weight_in port body = weight body + triggers_left port
 abbrev pub IsStep : Sight (Option Tree) → Sight (Option Tree) → Shown → Shown → Option Last → Type 0
 IsStep port later old new None = weight new < weight old
 IsStep port later old new (Some last) = IsLast new last × (weight_in later new ≤ weight_in port old)
+
+-- where a wait for a computation has come to: its trigger is to be armed next, or it is over
+abbrev pub IsArrived : Shown → Shown → Spot → ℕ → UnderWay → CompAhead → Option Last → Type 0
+IsArrived old new spot register way ahead.Park last = (last ≡ Some (Park spot way)) × (new ≡ stood old (Within spot.block spot.place way) old.context.steps)
+IsArrived old new spot register way (ahead.Done (Returned v)) last =
+    (last ≡ None) × (new ≡ stood (record old { context = with_register old.context register v }) (behind_at spot Next) old.context.steps)
+IsArrived old new spot register way (ahead.Done (Cancelled code)) last = (last ≡ None) × (new ≡ stood old (behind_at spot (Raised code)) old.context.steps)
+IsArrived old new spot register way (ahead.Cancelled code) last = (last ≡ None) × (new ≡ stood old (behind_at spot (Raised code)) old.context.steps)
+
+-- where it gave up: it is over where a limit was met, else it goes on from there
+abbrev pub HasGivenUp : Shown → Shown → Spot → UnderWay → PortFault → Result (Option Last) PortFault → Type 0
+HasGivenUp old new spot way Full answer = (answer ≡ Ok None) × (new ≡ stood old (behind_at spot (Raised limit_met)) old.context.steps)
+HasGivenUp old new spot way fault answer = (answer ≡ Err fault) × (new ≡ stood old (Within spot.block spot.place way) old.context.steps)
 
 -- the statement is one of a program that is run: it is built, and keeps to what each statement keeps to
 pub record CanRun (script : Tree) (one : Stmt) : Type 0 where

@@ -1,21 +1,21 @@
 //! Waits for computations.
-ghost use Rattle.std.specs.Prelude.{◌≡◌, ◌<◌, [], IfErr, IfOk, IfSome, OnOk};
+ghost use Rattle.std.specs.Prelude.{◌≡◌, ◌<◌, ◌+◌, ◌-◌, ◌^◌, [], IfErr, IfOk, IfSome, OnOk};
 ghost use Rattle.pic_machine.specs.Lending.{Calm, Faulted};
 ghost use Rattle.script_tree.specs.Tree.{Tree};
 ghost use Rattle.fiber_body.specs.Context.{comp_in, numbering};
 ghost use Rattle.fiber_body.specs.Shown.{stood};
 ghost use Rattle.fiber_poll.specs.Moving.{unmade};
 ghost use Rattle.fiber_poll.specs.Polls.{IsPortOf};
-ghost use Rattle.fiber_poll.specs.UnderWay.{CanRun, IsOn, IsStep, IsUp};
+ghost use Rattle.fiber_poll.specs.UnderWay.{CanRun, HasGivenUp, IsArrived, IsOn, IsStep, IsUp};
 
 use crate::calls::LIMIT_MET;
 use crate::poller::ScriptPoller;
 use crate::spot::{Last, Spot};
 use fiber_await::{CompAhead, await_comp};
-use fiber_body::{Body, Exit, UnderWay};
+use fiber_body::{Body, Exit, Standing, UnderWay};
 use pic_base::{CompNo, Outcome};
 use pic_machine::{Parts, Port, PortFault, ReadyLine};
-use script_tree::CompRef;
+use script_tree::{CompRef, Stmt};
 
 /// Lets the body stand within a wait for the computation that is named so, of which nothing is made yet. The
 /// register is to get the computation's value.
@@ -77,25 +77,60 @@ pub(crate) fn follow<P: Port<Body = Body>, R: ReadyLine>(
         comp,
         parts,
     };
-    let steps = body.steps();
     match ahead {
-        Ok(CompAhead::Park) => {
+        Ok(ahead) => Ok(arrive(body, spot, register, way, ahead)),
+        Err(fault) => give_up(body, spot, way, fault),
+    }
+}
+
+/// Lets the body stand where the wait has come to, and tells whether its trigger is to be armed next.
+fn arrive(
+    body: &mut Body,
+    spot: Spot,
+    register: u8,
+    way: UnderWay,
+    ahead: CompAhead,
+) -> Option<Last>
+    requires within { spot.place + 1 < 2 ^ 32 }
+    requires register { register < 16 }
+    ensures { IsArrived body.old body.new spot register way ahead result }
+{
+    let steps = body.steps();
+    let standing = match ahead {
+        CompAhead::Park => {
             body.stand(spot.within(way), steps);
-            return Ok(Some(Last::Park(spot, way)));
+            return Some(Last::Park(spot, way));
         }
-        Ok(CompAhead::Done(Outcome::Returned(value))) => {
+        CompAhead::Done(Outcome::Returned(value)) => {
             body.set_register(register, value);
-            body.stand(spot.behind(Exit::Next), steps);
+            spot.behind(Exit::Next)
         }
-        Ok(CompAhead::Done(Outcome::Cancelled(code))) => {
-            body.stand(spot.behind(Exit::Raised(code)), steps);
+        CompAhead::Done(Outcome::Cancelled(code)) => spot.behind(Exit::Raised(code)),
+        CompAhead::Cancelled(code) => spot.behind(Exit::Raised(code)),
+    };
+    body.stand(standing, steps);
+    None
+}
+
+/// Lets the body stand where the wait gave up: where a limit was met it is over, else it goes on later.
+fn give_up(
+    body: &mut Body,
+    spot: Spot,
+    way: UnderWay,
+    fault: PortFault,
+) -> Result<Option<Last>, PortFault>
+    requires { spot.place + 1 < 2 ^ 32 }
+    ensures { HasGivenUp body.old body.new spot way fault result }
+{
+    let steps = body.steps();
+    match fault {
+        PortFault::Full => {
+            body.stand(spot.behind(Exit::Raised(LIMIT_MET)), steps);
+            Ok(None)
         }
-        Ok(CompAhead::Cancelled(code)) => body.stand(spot.behind(Exit::Raised(code)), steps),
-        Err(PortFault::Full) => body.stand(spot.behind(Exit::Raised(LIMIT_MET)), steps),
-        Err(fault) => {
+        fault => {
             body.stand(spot.within(way), steps);
-            return Err(fault);
+            Err(fault)
         }
     }
-    Ok(None)
 }

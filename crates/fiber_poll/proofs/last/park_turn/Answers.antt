@@ -14,8 +14,8 @@ use Rattle.fiber_body.specs.Shown.{Shown, carry_of, stood}
 use Rattle.fiber_poll.specs.Moving.{arms_at, behind_arming}
 use Rattle.fiber_poll.proofs.Giving.{TakesBack, handed, handed_set_back, stopped, taken_back}
 use Rattle.fiber_poll.proofs.Going.{on_reserved, on_trans}
-use Rattle.fiber_poll.proofs.Owning.{arm_may}
-use Rattle.fiber_poll.proofs.Parking.{arms, asleep_leads, free_back, on_awake, on_taken, parks_reserved, refused_so, set_ahead, still_arms}
+use Rattle.fiber_poll.proofs.Owning.{arm_may, has_trigger}
+use Rattle.fiber_poll.proofs.Parking.{arms, awake_lighter, asleep_leads, free_back, on_awake, on_taken, parks_reserved, refused_so, set_ahead, still_arms}
 use Rattle.fiber_poll.proofs.Stages.{within_up}
 use Rattle.fiber_poll.proofs.last.park_turn.Goals as goal
 
@@ -152,4 +152,9 @@ pub unreachable-requires : goal.unreachable-requires
 unreachable-requires g c = has_trigger c.args.spot c.args.way c.requires.up c.requires.parks (sym c.arms_at.ensures ∙ c.in_default.is)
 
 pub returns-in-Err-default-Signalled-clause-lighter : goal.returns-in-Err-default-Signalled-clause-lighter
-returns-in-Err-default-Signalled-clause-lighter g c = ?
+returns-in-Err-default-Signalled-clause-lighter g c =
+    let t = c.in-Some.trigger in
+    let n = c.steps-steps.result in
+    let r : Shown = c.reserve.new.self in
+    let none = refused_so (g.P.Port.sight c.args.port.now) (g.P.Port.sight c.park.new.self) c.stand.new.self c.in-Err-default-Signalled.body t park.Signalled c.in-Err-default-Signalled.field-0-1-is c.in-Err-default-Signalled.ensures.none in
+    awake_lighter c.args.body c.args.spot c.args.way t n c.requires.parks c.reserve.ensures.rest (set_ahead r c.args.spot c.args.way t n c.stand.ensures c.within.ensures c.behind_arming.ensures) c.steps-steps.ensures none.1

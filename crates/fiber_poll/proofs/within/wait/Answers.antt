@@ -1,14 +1,18 @@
-use Rattle.std.proofs.Common.{◌≡◌, ap, subst}
+use Rattle.std.proofs.Common.{◌≡◌, ℕ, None, sym, ap, subst, ◌∙◌}
 use Rattle.std.specs.Prelude.{Ok}
 use Rattle.pic_machine.specs.declared.waits.Standing.{Standing as Under}
 use Rattle.pic_machine.specs.Waits.{arming, over, told, waiting_at}
 use Rattle.pic_machine.specs.Sight.{fiber_of}
 use Rattle.fiber_await.specs.declared.ahead.Ahead.{Ahead}
 use Rattle.fiber_await.specs.Phases.{suspended_at, trigger_of}
-use Rattle.fiber_body.specs.Shown.{carry_of}
+use Rattle.fiber_body.specs.Context.{Context}
+use Rattle.fiber_body.specs.Shown.{Shown, carry_of}
+use Rattle.fiber_body.specs.Triggers.{under}
 use Rattle.fiber_poll.proofs.Amid.{on_refusal}
 use Rattle.fiber_poll.proofs.Owning.{wait_may}
 use Rattle.fiber_poll.proofs.Placings.{on_ready, on_told, ran_to, ran_under}
+use Rattle.fiber_poll.proofs.Lighter.{ready_no_heavier}
+use Rattle.fiber_poll.proofs.Remaking.{no_heavier}
 use Rattle.fiber_poll.proofs.within.wait.Goals as goal
 
 pub suspend-requires-clause-may : goal.suspend-requires-clause-may
@@ -36,3 +40,11 @@ returns-in-Cancelled-clause-on g c line =
     (ran_under (λ (u : Under). waiting_at u parts.at parts) (λ u. over (told code)) c.waits_under-under.ensures.under
     (ran_to c.waits_under-under.result (fiber_of (carry_of c.args.body.now)) (trigger_of c.args.parts) (over (told code)) (ap (λ (told_so : Ahead). suspended_at c.waits_under-under.result (Ok told_so) c.suspend.new.parts) c.in-Cancelled.is) c.in_ok-suspend.ensures.ran))
     c.behind.ensures c.steps-in-Cancelled.ensures c.stand-in-Cancelled.ensures
+
+pub returns-in-Go-clause-step : goal.returns-in-Go-clause-step
+returns-in-Go-clause-step g c =
+    let later = c.suspend.new.parts in
+    let context : c.stand.new.self.context ≡ c.args.body.now.context = ap (λ (z : Shown). z.context) c.stand.ensures ∙ (ap (λ (n : ℕ). record c.suspend.new.body.context { steps = n }) c.steps.ensures ∙ c.suspend.ensures.rest.context) in (
+      (ap (λ (z : Shown). z.standing) c.stand.ensures ∙ c.within.ensures, subst (λ (u : Under). waiting_at u later.at later ≡ arming) (c.waits_under-under.ensures.under ∙ ap (λ (x : Context). under x) (sym context)) (c.in_ok-suspend.ensures.go (ap (λ (told_so : Ahead). Ok told_so) c.in-Go.is))),
+      no_heavier (returns-in-Go-clause-on g c None) (ready_no_heavier c.args.body.now c.suspend.new.body c.args.spot c.args.parts later c.within.result c.steps.result c.requires.within c.suspend.ensures.rest c.within.ensures c.steps.ensures c.stand.ensures),
+    )

@@ -1,10 +1,11 @@
-use Rattle.std.proofs.Common.{refl, ◌∙◌}
+use Rattle.std.proofs.Common.{refl, ◌∙◌, arith}
 use Rattle.pic_machine.proofs.Polls.{polled_after}
 use Rattle.fiber_body.specs.Fits.{Fits}
 use Rattle.fiber_body.specs.Shown.{carry_of}
 use Rattle.fiber_poll.proofs.Giving.{handed}
 use Rattle.fiber_poll.proofs.Going.{gave_up_after, on_none, on_trans}
 use Rattle.fiber_poll.proofs.Looping.{up_fit}
+use Rattle.fiber_poll.proofs.Remaking.{still_lighter}
 use Rattle.fiber_poll.proofs.poller.ScriptPollerPoller.poll.Goals as goal
 
 pub loop-spot-init : goal.loop-spot-init
@@ -44,3 +45,10 @@ pub loop-spot-preserved : goal.loop-spot-preserved
 loop-spot-preserved g c =
     let on = on_trans c.loop-spot.invariant.0 c.run_turn.ensures.on in
     (on_trans on (c.in-Ok.ensures.on (g.R.ReadyLine.told c.run_turn.new.line)), c.in-Ok.ensures.calm ∙ (c.in-Ok-Park.ensures.calm ∙ c.loop-spot.invariant.1))
+
+pub loop-spot-smaller : goal.loop-spot-smaller
+loop-spot-smaller g c =
+    let told = g.R.ReadyLine.told c.run_turn.new.line in
+    let less = still_lighter (c.in-Ok.ensures.on told) c.in-Ok.ensures.lighter in
+    let before = c.in-Ok-Park.ensures.last.1 in
+    omega (arith, less, before)

@@ -1,5 +1,5 @@
 -- Waits for computations: where a call that goes as far as it can leaves the body.
-use Rattle.std.proofs.Common.{◌≡◌, ℕ, ◌+◌, ◌-◌, ◌<◌, ◌≤◌, ◌==◌, cond, Bool, true, false, Option, Some, List, [], ◌∷◌, ◌++◌, length, Result, refl, sym, ap, subst, ◌∙◌, append-nil, arith}
+use Rattle.std.proofs.Common.{◌≡◌, ℕ, ◌-◌, ◌<◌, ◌≤◌, ◌==◌, cond, Bool, true, false, Option, Some, List, [], ◌++◌, length, Result, refl, sym, ap, subst, ◌∙◌, append-nil, arith}
 use Rattle.std.proofs.lemmas.Bool.Decides.{nat_tests}
 use Rattle.std.specs.Prelude.{IfErr, IfOk, OnOk, Ok, Err}
 use Rattle.pic_machine.specs.declared.port.PortFault.{PortFault}
@@ -19,7 +19,6 @@ use Rattle.fiber_await.specs.declared.ahead.CompAhead.TheVariants as ahead
 use Rattle.fiber_await.specs.declared.ahead.CompAhead.{CompAhead}
 use Rattle.fiber_await.proofs.Running.{telling_own}
 use Rattle.script_tree.specs.declared.program.CompRef.{CompRef}
-use Rattle.script_tree.specs.declared.program.Stmt.{Stmt}
 use Rattle.script_tree.specs.declared.program.Stmt.TheVariants as stmt
 use Rattle.script_tree.specs.Tree.{Tree}
 use Rattle.fiber_body.specs.declared.standing.Exit.{Exit}
@@ -31,7 +30,7 @@ use Rattle.fiber_body.specs.declared.under_way.UnderWay.{UnderWay}
 use Rattle.fiber_body.specs.declared.under_way.UnderWay.TheVariants.{Follows}
 use Rattle.fiber_body.specs.Context.{Context, comp_in, limit_met, numbering, stepped, with_register}
 use Rattle.fiber_body.specs.Owns.{OwnsFollowing, OwnsParts}
-use Rattle.fiber_body.specs.Phases.{Phase, awaits_comp}
+use Rattle.fiber_body.specs.Phases.{awaits_comp}
 use Rattle.fiber_body.specs.Shown.{IsSameRest, Shown, carry_of, stood}
 use Rattle.fiber_body.specs.Statements.{named}
 use Rattle.fiber_body.specs.Tables.{ends_by, settles}

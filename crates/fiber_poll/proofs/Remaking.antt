@@ -1,5 +1,5 @@
 -- A wait for a computation that looks again makes a trigger before it waits again, so there is one less to make.
-use Rattle.std.proofs.Common.{◌≡◌, ℕ, ◌+◌, ◌-◌, ◌<◌, ◌≤◌, ◌⊎◌, inl, inr, nat_lt, cond, Bool, true, false, Option, Some, None, List, [], ◌∷◌, ◌++◌, length, filter, refl, sym, ap, subst, ◌∙◌, append_assoc, arith}
+use Rattle.std.proofs.Common.{◌≡◌, ℕ, ◌-◌, ◌<◌, ◌≤◌, ◌⊎◌, inl, inr, nat_lt, cond, Bool, true, false, Option, Some, None, List, [], ◌∷◌, ◌++◌, length, filter, refl, sym, ap, subst, ◌∙◌, append_assoc, arith}
 use Rattle.pic_base.specs.declared.limits.Limits.{Limits}
 use Rattle.pic_base.specs.declared.outcome.Outcome.TheVariants.{Cancelled, Returned}
 use Rattle.pic_machine.specs.declared.entry.Call.{Call}
@@ -17,8 +17,8 @@ use Rattle.pic_machine.specs.Sight.{Carry, Sight, fiber_of}
 use Rattle.pic_machine.specs.State.{State}
 use Rattle.pic_machine.specs.Lending.{Later}
 use Rattle.pic_machine.specs.Step.{made_below}
-use Rattle.pic_machine.specs.Turning.{Grew, Went}
-use Rattle.pic_machine.specs.Waits.{Waiting, arming, attaching, awake, checking, full, made, over, place, taken, told, trigger, woken}
+use Rattle.pic_machine.specs.Turning.{Grew}
+use Rattle.pic_machine.specs.Waits.{arming, attaching, awake, checking, full, made, over, place, taken, told, trigger, woken}
 use Rattle.std.proofs.lemmas.Bool.Decides.{nat_tests}
 use Rattle.std.proofs.lemmas.List.{append_cancel_left}
 use Rattle.pic_machine.proofs.Histories.{log-append, world_from-append}
@@ -31,7 +31,7 @@ use Rattle.fiber_await.specs.Doing.{RanTelling}
 use Rattle.fiber_poll.specs.declared.spot.Last.{Last}
 use Rattle.fiber_poll.specs.UnderWay.{IsLast, IsOn, IsStep, triggers_left, weight_in}
 use Rattle.fiber_poll.specs.Moving.{weight}
-use Rattle.fiber_body.specs.Shown.{Shown, carry_of}
+use Rattle.fiber_body.specs.Shown.{Shown}
 
 -- ---- a trigger is to be made before the next arming
 
@@ -153,16 +153,16 @@ one_less : (p q : Sight (Option Tree)) (a : Carry (Option Tree)) (es : List Happ
 one_less p q a es n legal grew has =
     let f = fiber_of a in
     let logs : log grew.more f ≡ es = append_cancel_left (log p.front f) (log grew.more f) es
-        (sym (log-append p.front grew.more f) ∙ (sym (ap (λ (hs : List Happened). log hs f) grew.later.front) ∙ grew.log)) in
+    (sym (log-append p.front grew.more f) ∙ (sym (ap (λ (hs : List Happened). log hs f) grew.later.front) ∙ grew.log)) in
     let here : HasMade grew.more f NewTrigger n = made_kept (is_logged f) f n grew.more has.front has.back (logs ∙ has.is) in
     let legal_too : IsLegal p.origin (p.front ++ grew.more) = subst (λ (o : Origin). IsLegal o (p.front ++ grew.more)) grew.later.origin (subst (IsLegal q.origin) grew.later.front legal) in
     let least = later_number p.origin p.front grew.more f n legal_too here in
     let all : HasMade (p.front ++ grew.more) f NewTrigger n =
-        record { front = p.front ++ here.front; back = here.back; is = ap (λ (zs : List Happened). p.front ++ zs) here.is ∙ sym (append_assoc p.front here.front (event f NewTrigger (reply.Made n) ∷ here.back)) } in
+    record { front = p.front ++ here.front; back = here.back; is = ap (λ (zs : List Happened). p.front ++ zs) here.is ∙ sym (append_assoc p.front here.front (event f NewTrigger (reply.Made n) ∷ here.back)) } in
     let most = made_trigger p.origin (p.front ++ grew.more) f n legal_too all in
     let there : triggers_left q ≡ p.origin.world.limits.triggers - length (world p.origin (p.front ++ grew.more)).triggers =
-        ap (λ (o : Origin). o.world.limits.triggers - length (world o q.front).triggers) grew.later.origin
-        ∙ ap (λ (hs : List Happened). p.origin.world.limits.triggers - length (world p.origin hs).triggers) grew.later.front in
+    ap (λ (o : Origin). o.world.limits.triggers - length (world o q.front).triggers) grew.later.origin
+    ∙ ap (λ (hs : List Happened). p.origin.world.limits.triggers - length (world p.origin hs).triggers) grew.later.front in
     omega (arith, there, least, most)
 
 -- ---- what a turn may still do

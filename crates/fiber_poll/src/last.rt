@@ -12,8 +12,8 @@ ghost use Rattle.fiber_poll.specs.UnderWay.{IsHandedBack, IsLast, IsOn, IsUp};
 
 use crate::looking::TAKEN_ALREADY;
 use crate::spot::{Last, Spot};
-use fiber_body::{Body, Exit, Standing, UnderWay};
 use fiber_await::armed;
+use fiber_body::{Body, Exit, Standing, UnderWay};
 use pic_base::{Outcome, TriggerNo};
 use pic_machine::{Carried, ParkRefusal, Port, PortFault, ReadyLine, Turn};
 use script_tree::Stmt;

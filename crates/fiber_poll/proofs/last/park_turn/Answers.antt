@@ -11,7 +11,7 @@ use Rattle.pic_machine.proofs.Turns.{Adds-nil}
 use Rattle.fiber_body.specs.declared.standing.Standing.{Standing}
 use Rattle.fiber_body.specs.declared.standing.Standing.TheVariants.{Within}
 use Rattle.fiber_body.specs.Shown.{Shown, carry_of, stood}
-use Rattle.fiber_poll.specs.Moving.{arms_at, behind_arming}
+use Rattle.fiber_poll.specs.Moving.{behind_arming}
 use Rattle.fiber_poll.proofs.Giving.{TakesBack, handed, handed_set_back, stopped, taken_back}
 use Rattle.fiber_poll.proofs.Going.{on_reserved, on_trans}
 use Rattle.fiber_poll.proofs.Owning.{arm_may, has_trigger}

@@ -1,5 +1,5 @@
 use Rattle.std.proofs.lemmas.Result.{err_from_is_err_and}
-use Rattle.std.proofs.Common.{◌<◌, refl, sym, subst, ◌∙◌, arith}
+use Rattle.std.proofs.Common.{refl, sym, subst, ◌∙◌, arith}
 use Rattle.fiber_poll.specs.UnderWay.{IsStep}
 use Rattle.fiber_poll.proofs.Going.{free_gone, gave_up_after, on_none, on_trans, port_stays}
 use Rattle.fiber_poll.proofs.Looping.{on_with}

@@ -45,24 +45,24 @@ abbrev decls : List Decl
 decls = record { name = []; kind = kind.Trigger } ∷ record { name = []; kind = kind.Comp } ∷ record { name = []; kind = kind.Mutex } ∷ record { name = []; kind = kind.Comp } ∷ record { name = []; kind = kind.Trigger } ∷ []
 
 -- fiber 3 of a script with these blocks
-abbrev within : List (List Stmt) → Setting
+abbrev pub within : List (List Stmt) → Setting
 within blocks = record { fiber = 3; script = record { decls = decls; texts = record { name = []; block = 0 } ∷ []; blocks = blocks; events = [] } }
 
 -- so many registers and cells as the walk speaks of; the current computation is 2
-abbrev holding : List ℕ → List ℕ → ℕ → Context
+abbrev pub holding : List ℕ → List ℕ → ℕ → Context
 holding registers cells steps = record { registers = registers; cells = cells; steps = steps; current = 2; permitted = true }
 
-abbrev with : List ℕ → ℕ → Context
+abbrev pub with : List ℕ → ℕ → Context
 with registers steps = holding registers [] steps
 
-abbrev said : ℕ → Happened
+abbrev pub said : ℕ → Happened
 said n = event 3 (call.Say n) Plain
 
 abbrev plain : ℕ → List Reply
 plain n = replicate n Plain
 
 -- these statements, from one context on, leave this log and end so, with the other context; blocks are by their numbers
-abbrev Leaves : List (List Stmt) → List Stmt → Context → List Happened → Exit → Context → Type 0
+abbrev pub Leaves : List (List Stmt) → List Stmt → Context → List Happened → Exit → Context → Type 0
 Leaves blocks ss c log x d = Runs (within blocks) ss c log (whole x) d
 
 -- what statements of such a script, and what is left of one, come by with these replies
@@ -165,13 +165,13 @@ nobody_completed = (ran _ _ _ (plain 1)).is
 abbrev looked : ℕ → TrigState → Happened
 looked t state = event 3 (call.Look t) (reply.Seen state)
 
-abbrev placed : ℕ → Happened
+abbrev pub placed : ℕ → Happened
 placed a = event 3 call.NewPlace (Made a)
 
-abbrev tied : ℕ → ℕ → ℕ → AttachReply → Happened
+abbrev pub tied : ℕ → ℕ → ℕ → AttachReply → Happened
 tied a k t how = event 3 (call.Attach a k t) (reply.Attached how)
 
-abbrev armed : ℕ → ArmReply → Happened
+abbrev pub armed : ℕ → ArmReply → Happened
 armed t how = event 3 (call.Arm t (Resume 3)) (reply.Armed how)
 
 -- a wait for the first trigger and one for the second, each with a statement behind it
@@ -216,7 +216,7 @@ no_place_to_wait : Leaves [] awaits_first (with [] 9) (looked 0 Initial ∷ even
 no_place_to_wait = (ran _ _ _ (reply.Seen Initial ∷ Full ∷ [])).is
 
 -- who isn't permitted to be told of a cancellation attaches nothing, and doesn't look at the computation
-abbrev forbidden : ℕ → Context
+abbrev pub forbidden : ℕ → Context
 forbidden steps = record (with [] steps) { permitted = false }
 
 waits_untold : Leaves [] (stmt.Await 4 ∷ stmt.Await 0 ∷ stmt.Say (Num 1) ∷ []) (forbidden 3)

@@ -9,6 +9,7 @@ use std::test::Fail;
 
 mod faults;
 mod flags;
+mod following;
 mod reports;
 mod triggers;
 mod turns;
@@ -91,4 +92,16 @@ fn expect_answer(
     assert_eq!(rt; files.calls, 1);
     assert_eq!(rt; files.reads.len(), 1);
     Ok(())
+}
+
+/// Runs the script with logs, and expects this status and report.
+fn expect_logged(
+    rt: &impl Abort,
+    alloc: Global,
+    script: &str,
+    status: Status,
+    report: &str,
+) -> Result<(), Fail> {
+    let words = ["run", "a", "b", "--log"];
+    expect_answer(rt, alloc, &words, script, status, report)
 }

@@ -1,19 +1,6 @@
 //! Scripts whose fibers wait for triggers, and attach them.
 use super::*;
 
-/// Runs the script of these declarations, this text of a fiber and this text of main, with logs, and expects
-/// this status and report.
-fn expect_logged(
-    rt: &impl Abort,
-    alloc: Global,
-    script: &str,
-    status: Status,
-    report: &str,
-) -> Result<(), Fail> {
-    let words = ["run", "a", "b", "--log"];
-    expect_answer(rt, alloc, &words, script, status, report)
-}
-
 /// The fiber is suspended before main signals its trigger, and goes on then.
 #[test]
 fn a_signal_resumes_who_waits(rt: HostRuntime) -> Result<(), Fail> {

@@ -4,3 +4,4 @@ pub mod Newborn
 pub mod Popped
 mod Walking
 mod Walks
+mod WalksUnder

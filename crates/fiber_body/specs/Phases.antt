@@ -1,6 +1,7 @@
 -- Where a statement stands, from one of its calls to the next one.
 use Rattle.std.specs.Prelude.{ℕ, Option}
 use Rattle.pic_base.specs.declared.outcome.Outcome.{Outcome}
+use Rattle.pic_machine.specs.declared.waits.Standing.{Standing}
 use Rattle.pic_machine.specs.Waits.{Waiting}
 use Rattle.script_tree.specs.declared.program.Stmt.{Stmt}
 use Rattle.fiber_body.specs.declared.standing.Exit.{Exit}
@@ -44,6 +45,8 @@ pub data Phase : Type 0 where
   tries : ℕ → ℕ → ℕ → Phase
   -- such a block ended so
   catching : ℕ → ℕ → Exit → Phase
+  -- a block that is run under this
+  runs_under : Standing → ℕ → Phase
   -- a whole text, and the end of its fiber
   lives : ℕ → Phase
   ending : Outcome → Ending → Phase

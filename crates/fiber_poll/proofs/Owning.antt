@@ -18,13 +18,12 @@ use Rattle.fiber_body.specs.declared.under_way.UnderWay.TheVariants.{Awaits, Att
 use Rattle.fiber_body.specs.Context.{count_of}
 use Rattle.script_tree.specs.declared.thing.Sort.TheVariants as sort
 use Rattle.fiber_body.specs.Owns.{IsDeclared, OwnsPlace, OwnsWait}
-use Rattle.fiber_body.specs.Shown.{Shown, carry_of}
+use Rattle.fiber_body.specs.Shown.{MayBeCurrent, Shown, carry_of}
 use Rattle.fiber_body.specs.Texts.{script_in}
 use Rattle.fiber_poll.specs.declared.spot.Spot.{Spot}
 use Rattle.fiber_poll.specs.Polls.{IsPortOf}
 use Rattle.fiber_poll.specs.UnderWay.{IsUp}
-use Rattle.fiber_poll.proofs.Births.{current_stands}
-use Rattle.fiber_poll.proofs.Giving.{comp_stands, trigger_stands}
+use Rattle.fiber_poll.proofs.Giving.{comp_stands, current_up, trigger_stands}
 use Rattle.fiber_poll.proofs.Going.{may_make, program_up}
 use Rattle.fiber_poll.proofs.Stages.{within_up}
 
@@ -46,15 +45,9 @@ module _ (tree : Tree) {p : Sight (Option Tree)} {a : Shown} where
       let comp : k ≤ count_of sort.Comp tree.decls = subst (λ (tr : Tree). k ≤ count_of sort.Comp tr.decls) (ap script_in (program_up tree p a of up)) kept.0.comp in
       may_make up free (here.1, comp_stands of k comp, trigger_stands of t (declared_here t of up kept.0.trigger)) tt here.0
 
-  -- the current computation stands
-  current_here : (u : Under) → IsPortOf tree p → IsUp p a → u.current ≡ a.birth.current → u.current < length (world p.origin p.front).comps
-  current_here u of up same =
-      subst (λ (k : ℕ). k < length (world p.origin p.front).comps) (sym same)
-      (current_stands p.origin p.front (fiber_of (carry_of a)) a.birth up.holds.legal of.main (up.holds.birth up.fiber))
-
-  pub wait_may : (spot : Spot) (parts : Parts) (u : Under) → IsPortOf tree p → IsUp p a → a.owes ≡ [] → a.standing ≡ Within spot.block spot.place (Awaits parts) → u.current ≡ a.birth.current
+  pub wait_may : (spot : Spot) (parts : Parts) (u : Under) → IsPortOf tree p → IsUp p a → a.owes ≡ [] → a.standing ≡ Within spot.block spot.place (Awaits parts) → MayBeCurrent a.program a.birth u.current
       → IfSome parts.place (λ place. parts.at ≡ 2 → MayMake p.origin p.front (fiber_of (carry_of a)) (asked.Attach place u.current (trigger_of parts)))
-  wait_may spot parts u of up free at same = by_place parts.place refl where
+  wait_may spot parts u of up free at may = by_place parts.place refl where
     kept : OwnsWait (script_in a.program) (fiber_of (carry_of a)) (own (log p.front (fiber_of (carry_of a)))) parts
     kept = (within_up spot (Awaits parts) up at).1
 
@@ -63,10 +56,10 @@ module _ (tree : Tree) {p : Sight (Option Tree)} {a : Shown} where
     by_place (Some place) is = λ two.
         let owns = subst (λ (o : Option ℕ). IfSome o (OwnsPlace (fiber_of (carry_of a)) (own (log p.front (fiber_of (carry_of a)))))) is (kept.place two) in
         let here = own_place place u.current (trigger_of parts) up owns in
-        may_make up free (here.1, current_here u of up same, trigger_stands of (trigger_of parts) (declared_here (trigger_of parts) of up kept.trigger)) tt here.0
+        may_make up free (here.1, current_up of u.current up may, trigger_stands of (trigger_of parts) (declared_here (trigger_of parts) of up kept.trigger)) tt here.0
 
-  pub wake_may : (u : Under) → IsPortOf tree p → IsUp p a → a.owes ≡ [] → u.current ≡ a.birth.current → MayMake p.origin p.front (fiber_of (carry_of a)) (asked.Peek u.current)
-  wake_may u of up free same = may_make up free (current_here u of up same) tt tt
+  pub wake_may : (u : Under) → IsPortOf tree p → IsUp p a → a.owes ≡ [] → MayBeCurrent a.program a.birth u.current → MayMake p.origin p.front (fiber_of (carry_of a)) (asked.Peek u.current)
+  wake_may u of up free may = may_make up free (current_up of u.current up may) tt tt
 
   -- a trigger for which it waits may be armed
   pub arm_may : (spot : Spot) (parts : Parts) (t : ℕ) → IsPortOf tree p → IsUp p a → a.owes ≡ [] → a.standing ≡ Within spot.block spot.place (Awaits parts) → parts.trigger ≡ Some t

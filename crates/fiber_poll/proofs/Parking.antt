@@ -21,14 +21,14 @@ use Rattle.fiber_body.specs.declared.standing.Exit.TheVariants.{Raised}
 use Rattle.fiber_body.specs.declared.standing.Standing.{Standing}
 use Rattle.fiber_body.specs.declared.standing.Standing.TheVariants.{Within}
 use Rattle.fiber_body.specs.declared.under_way.UnderWay.TheVariants.{Awaits, Awake}
-use Rattle.fiber_body.specs.Context.{Context, taken_already}
+use Rattle.fiber_body.specs.Context.{Context, taken_already, under}
 use Rattle.fiber_body.specs.Fits.{LeadsTo}
 use Rattle.fiber_body.specs.Owns.{IsDeclared}
 use Rattle.fiber_body.specs.Phases.{Phase, awaits_trigger, suspending}
 use Rattle.fiber_body.specs.Shown.{IsSameRest, Shown, carry_of, stood}
 use Rattle.fiber_body.specs.Tables.{leads}
 use Rattle.fiber_body.specs.Texts.{script_in}
-use Rattle.fiber_body.specs.Triggers.{trigger_in, under}
+use Rattle.fiber_body.specs.Triggers.{trigger_in}
 use Rattle.fiber_poll.specs.declared.spot.Spot.{Spot}
 use Rattle.fiber_poll.specs.Moving.{behind_at}
 use Rattle.fiber_poll.specs.UnderWay.{IsOn, IsUp}

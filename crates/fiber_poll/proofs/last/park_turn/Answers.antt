@@ -11,9 +11,8 @@ use Rattle.pic_machine.proofs.Turns.{Adds-nil}
 use Rattle.fiber_body.specs.declared.standing.Standing.{Standing}
 use Rattle.fiber_body.specs.declared.standing.Standing.TheVariants.{Within}
 use Rattle.fiber_body.specs.declared.under_way.UnderWay.TheVariants.{Awaits, Awake}
-use Rattle.fiber_body.specs.Context.{Context}
+use Rattle.fiber_body.specs.Context.{Context, under}
 use Rattle.fiber_body.specs.Shown.{Shown, carry_of, stood}
-use Rattle.fiber_body.specs.Triggers.{under}
 use Rattle.fiber_poll.proofs.Giving.{TakesBack, handed, handed_set_back, stopped, taken_back}
 use Rattle.fiber_poll.proofs.Going.{on_reserved, on_trans}
 use Rattle.fiber_poll.proofs.Owning.{arm_may}

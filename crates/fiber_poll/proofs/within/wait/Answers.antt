@@ -12,7 +12,7 @@ use Rattle.fiber_poll.proofs.Placings.{on_ready, on_told, ran_to, ran_under}
 use Rattle.fiber_poll.proofs.within.wait.Goals as goal
 
 pub suspend-requires-clause-may : goal.suspend-requires-clause-may
-suspend-requires-clause-may g c = wait_may c.requires.port_of.0 c.args.spot c.args.parts c.waits_under-under.result c.requires.port_of.1 c.requires.up c.requires.free c.requires.within c.waits_under-under.ensures.of_birth
+suspend-requires-clause-may g c = wait_may c.requires.port_of.0 c.args.spot c.args.parts c.waits_under-under.result c.requires.port_of.1 c.requires.up c.requires.free c.requires.within c.waits_under-under.ensures.may
 
 pub returns-in_err-suspend-clause-on : goal.returns-in_err-suspend-clause-on
 returns-in_err-suspend-clause-on g c line = on_refusal line c.requires.up c.in_err-suspend.ensures.refused.0 c.suspend.ensures.rest

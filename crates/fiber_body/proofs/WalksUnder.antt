@@ -1,5 +1,5 @@
 -- Walks through the lines of the tables of `check`, and of blocks that are run under something else.
-use Rattle.std.proofs.Common.{◌×◌, ℕ, Bool, true, false, Some, None, List, [], ◌∷◌}
+use Rattle.std.proofs.Common.{ℕ, Bool, true, false, Some, None, List, [], ◌∷◌}
 use Rattle.pic_base.specs.declared.outcome.Outcome.{Outcome}
 use Rattle.pic_base.specs.declared.outcome.Outcome.TheVariants.{Returned, Cancelled}
 use Rattle.pic_base.specs.declared.action.Action.TheVariants.{Resume}

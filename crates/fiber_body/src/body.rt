@@ -258,7 +258,7 @@ impl Body {
     /// Takes the innermost frame away, if anything is around the block in which it stands.
     pub fn pop_frame(&mut self) -> Option<Frame>
         ensures popped { IsPopped self.old self.new result }
-        ensures frame { IfSome result (IsFrame self.old.program self.old.birth) }
+        ensures frame { IfSome result (IsFrame self.new.program self.new.birth) }
     {
         self.content.frames.pop()
     }

@@ -115,15 +115,15 @@ IsNoTest (stmt.If left test right then other) = ⊥
 IsNoTest _ = ⊤
 
 -- a check that doesn't come to its end at once is one of a fiber that is permitted to be told
-abbrev pub IsTold : Context → Stmt → Type 0
-IsTold c stmt.Check = c.permitted ≡ true
-IsTold c _ = ⊤
+abbrev pub IsTold : Bool → Stmt → Type 0
+IsTold permitted stmt.Check = permitted ≡ true
+IsTold permitted _ = ⊤
 
 -- the statement has a call, or a block that isn't a test's
 pub record IsWaiting (c : Context) (one : Stmt) : Type 0 where
   pub not_done : result c.registers c.cells one ≡ None
   pub no_test : IsNoTest one
-  pub told : IsTold c one
+  pub told : IsTold c.permitted one
 
 -- the statement has a call, or several
 abbrev pub HasCall : Context → Stmt → Type 0

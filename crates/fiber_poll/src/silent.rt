@@ -150,7 +150,7 @@ fn at_once(body: &mut Body, stmt: &Stmt) -> AtOnce
 /// Whether the statement is a check of a fiber that isn't told of a cancellation.
 fn is_untold_check(body: &Body, stmt: &Stmt) -> bool
     ensures untold { OnTrue result ((stmt.now ≡ Stmt.Check) × (body.now.context.permitted ≡ false)) }
-    ensures told { OnFalse result (IsTold body.now.context stmt.now) }
+    ensures told { OnFalse result (IsTold body.now.context.permitted stmt.now) }
 {
     match stmt {
         Stmt::Check => !body.waits_under().permitted,

@@ -3,10 +3,8 @@ use Rattle.std.proofs.Common.{◌≡◌, ℕ, Option, Some, None, List, [], ◌�
 use Rattle.std.specs.List.{AllByRecursion}
 use Rattle.std.specs.Option.{IfSome, MatchOption, option_to_list}
 use Rattle.std.proofs.lemmas.List.{reverse-append}
-use Rattle.pic_machine.specs.declared.birth.Birth.{Birth}
-use Rattle.script_tree.specs.Tree.{Tree}
 use Rattle.fiber_body.specs.declared.standing.Frame.{Frame}
-use Rattle.fiber_body.specs.Shown.{IsFrame, IsPopped, Shown}
+use Rattle.fiber_body.specs.Shown.{IsPopped, Shown}
 
 none_from_length : (frames : List Frame) → length frames ≡ 0 → frames ≡ []
 none_from_length [] none = refl
@@ -22,22 +20,22 @@ popped body before now None old new is count none =
 popped body before now (Some frame) old new is count some = (reverse now, ap reverse is ∙ reverse-append now (frame ∷ []), refl)
 
 -- what each frame keeps to, when one comes or goes
-module _ {program : Option Tree} {birth : Birth} where
-  pub frames-push : (frames : List Frame) (frame : Frame) → AllByRecursion (IsFrame program birth) frames → IsFrame program birth frame → AllByRecursion (IsFrame program birth) (frames ++ frame ∷ [])
+module _ (P : Frame → Type 0) where
+  pub frames-push : (frames : List Frame) (frame : Frame) → AllByRecursion P frames → P frame → AllByRecursion P (frames ++ frame ∷ [])
   frames-push [] frame all is = (is, tt)
   frames-push (first ∷ frames) frame all is = (all.0, frames-push frames frame all.1 is)
 
-  frames-pop : (frames back : List Frame) → AllByRecursion (IsFrame program birth) (frames ++ back) → AllByRecursion (IsFrame program birth) frames
+  frames-pop : (frames back : List Frame) → AllByRecursion P (frames ++ back) → AllByRecursion P frames
   frames-pop [] back all = tt
   frames-pop (first ∷ frames) back all = (all.0, frames-pop frames back all.1)
 
-  frames-last : (frames back : List Frame) → AllByRecursion (IsFrame program birth) (frames ++ back) → AllByRecursion (IsFrame program birth) back
+  frames-last : (frames back : List Frame) → AllByRecursion P (frames ++ back) → AllByRecursion P back
   frames-last [] back all = all
   frames-last (first ∷ frames) back all = frames-last frames back all.1
 
-  pub frames_left : (before now : List Frame) (frame : Option Frame) → before ≡ now ++ option_to_list frame → AllByRecursion (IsFrame program birth) before → AllByRecursion (IsFrame program birth) now
-  frames_left before now frame is all = frames-pop now (option_to_list frame) (subst (AllByRecursion (IsFrame program birth)) is all)
+  pub frames_left : (before now : List Frame) (frame : Option Frame) → before ≡ now ++ option_to_list frame → AllByRecursion P before → AllByRecursion P now
+  frames_left before now frame is all = frames-pop now (option_to_list frame) (subst (AllByRecursion P) is all)
 
-  pub popped_frame : (before now : List Frame) (frame : Option Frame) → before ≡ now ++ option_to_list frame → AllByRecursion (IsFrame program birth) before → IfSome frame (IsFrame program birth)
+  pub popped_frame : (before now : List Frame) (frame : Option Frame) → before ≡ now ++ option_to_list frame → AllByRecursion P before → IfSome frame P
   popped_frame before now None is all = tt
-  popped_frame before now (Some frame) is all = (frames-last now (frame ∷ []) (subst (AllByRecursion (IsFrame program birth)) is all)).0
+  popped_frame before now (Some frame) is all = (frames-last now (frame ∷ []) (subst (AllByRecursion P) is all)).0

@@ -1,5 +1,5 @@
 -- Statements that come to their end at once, and rounds of a loop: what each makes of where a body stands.
-use Rattle.std.proofs.Common.{◌≡◌, ◌≢◌, ℕ, ◌+◌, ◌-◌, ◌^◌, ◌<◌, ◌≤◌, nat_lt, Bool, true, false, cond, Option, Some, None, List, [], ◌∷◌, ◌++◌, length, map, slice_get, refl, sym, ap, subst, ◌∙◌, arith}
+use Rattle.std.proofs.Common.{◌≡◌, ℕ, ◌+◌, ◌-◌, ◌^◌, ◌<◌, ◌≤◌, nat_lt, Bool, true, false, cond, Option, Some, None, List, [], ◌∷◌, ◌++◌, length, map, slice_get, refl, sym, ap, subst, ◌∙◌, arith}
 use Rattle.std.specs.Prelude.{IfSome}
 use Rattle.std.proofs.lemmas.Bool.Decides.{nat_tests}
 use Rattle.std.proofs.lemmas.Option.{slice_get_within}
@@ -26,7 +26,7 @@ use Rattle.fiber_body.specs.Statements.{Effect, begins, or_first, result}
 use Rattle.fiber_body.specs.Tables.{encloses, ends_by, ends_text, repeats, settles}
 use Rattle.fiber_body.specs.Texts.{script_in}
 use Rattle.fiber_poll.specs.declared.spot.Spot.{Spot}
-use Rattle.fiber_poll.specs.Moving.{CostsStep, EndsAtOnce, Goes, IsBefore, IsBetween, IsNoTest, IsTold, IsWaiting, WentOn, behind_at, chosen}
+use Rattle.fiber_poll.specs.Moving.{CostsStep, EndsAtOnce, Goes, IsBefore, IsBetween, WentOn, behind_at, chosen}
 
 -- what is around these frames, within a text
 abbrev pub framed : List Frame → List Outer
@@ -140,15 +140,6 @@ not_told a untold = record {
 pub untold_at_once : (a b : Shown) (one : Stmt) → b ≡ a → (one ≡ stmt.Check) × (b.context.permitted ≡ false) → EndsAtOnce a b one Next
 untold_at_once a b one same untold =
     subst (λ (z : Shown). EndsAtOnce a z one Next) (sym same) (subst (λ (s : Stmt). EndsAtOnce a a s Next) (sym untold.0) (not_told a (subst (λ (z : Shown). z.context.permitted ≡ false) same untold.1)))
-
-no_test : (one : Stmt) → ((left : Operand) (test : Test) (right : Operand) (then : ℕ) (other : Option ℕ) → one ≢ stmt.If left test right then other) → IsNoTest one
-no_test (stmt.If left test right then other) apart = absurd (apart left test right then other refl)
-no_test _ apart = tt
-
--- what neither changes anything nor is a test or such a check
-pub waits_so : (a b : Shown) (one : Stmt) → b ≡ a → result a.context.registers a.context.cells one ≡ None → ((left : Operand) (test : Test) (right : Operand) (then : ℕ) (other : Option ℕ) → one ≢ stmt.If left test right then other)
-    → IsTold b.context.permitted one → (b ≡ a) × IsWaiting a.context one
-waits_so a b one same none apart told = (same, record { not_done = none; no_test = no_test one apart; told = subst (λ (z : Shown). IsTold z.context.permitted one) same told })
 
 -- ---- rounds
 

@@ -38,11 +38,11 @@ returns-in_ok-enter_under-in-Permit-clause-goes c =
     subst (Goes body) (sym (c.in_ok-enter_under-in-Permit.ensures.entered ∙ ap (λ (x : Under). entered_under body c.args.spot x c.in-Permit.block) c.told-in-Permit.ensures.is))
     (under_goes body c.args.spot (stmt.Permit c.in-Permit.block) u c.in-Permit.block (subst (IsBefore body c.args.spot) c.in-Permit.is c.requires.before) tt refl)
 
-pub with_current-requires-clause-declared : goal.with_current-requires-clause-declared
-with_current-requires-clause-declared c = (subst (CanRun c.args.poller.now) c.in-Under.is c.requires.can).fits.0.0
+pub with_current-under-requires-clause-declared : goal.with_current-under-requires-clause-declared
+with_current-under-requires-clause-declared c = (subst (CanRun c.args.poller.now) c.in-Under.is c.requires.can).fits.0.0
 
-pub with_current-requires-clause-built : goal.with_current-requires-clause-built
-with_current-requires-clause-built c = (subst (CanRun c.args.poller.now) c.in-Under.is c.requires.can).built
+pub with_current-under-requires-clause-built : goal.with_current-under-requires-clause-built
+with_current-under-requires-clause-built c = (subst (CanRun c.args.poller.now) c.in-Under.is c.requires.can).built
 
 pub returns-in_ok-enter_under-in-Under-clause-goes : goal.returns-in_ok-enter_under-in-Under-clause-goes
 returns-in_ok-enter_under-in-Under-clause-goes c =

@@ -5,3 +5,4 @@ pub mod Popped
 mod Walking
 mod Walks
 mod FollowingWalks
+mod WalksUnder

@@ -4,7 +4,7 @@ use Rattle.std.specs.List.{AllByRecursion}
 use Rattle.std.specs.Option.{IfSome, MatchOption, option_to_list}
 use Rattle.std.proofs.lemmas.List.{reverse-append}
 use Rattle.fiber_body.specs.declared.standing.Frame.{Frame}
-use Rattle.fiber_body.specs.Shown.{IsFrame, IsPopped, Shown}
+use Rattle.fiber_body.specs.Shown.{IsPopped, Shown}
 
 none_from_length : (frames : List Frame) → length frames ≡ 0 → frames ≡ []
 none_from_length [] none = refl
@@ -20,21 +20,22 @@ popped body before now None old new is count none =
 popped body before now (Some frame) old new is count some = (reverse now, ap reverse is ∙ reverse-append now (frame ∷ []), refl)
 
 -- what each frame keeps to, when one comes or goes
-pub frames-push : (frames : List Frame) (frame : Frame) → AllByRecursion IsFrame frames → IsFrame frame → AllByRecursion IsFrame (frames ++ frame ∷ [])
-frames-push [] frame all is = (is, tt)
-frames-push (first ∷ frames) frame all is = (all.0, frames-push frames frame all.1 is)
+module _ (P : Frame → Type 0) where
+  pub frames-push : (frames : List Frame) (frame : Frame) → AllByRecursion P frames → P frame → AllByRecursion P (frames ++ frame ∷ [])
+  frames-push [] frame all is = (is, tt)
+  frames-push (first ∷ frames) frame all is = (all.0, frames-push frames frame all.1 is)
 
-frames-pop : (frames back : List Frame) → AllByRecursion IsFrame (frames ++ back) → AllByRecursion IsFrame frames
-frames-pop [] back all = tt
-frames-pop (first ∷ frames) back all = (all.0, frames-pop frames back all.1)
+  frames-pop : (frames back : List Frame) → AllByRecursion P (frames ++ back) → AllByRecursion P frames
+  frames-pop [] back all = tt
+  frames-pop (first ∷ frames) back all = (all.0, frames-pop frames back all.1)
 
-frames-last : (frames back : List Frame) → AllByRecursion IsFrame (frames ++ back) → AllByRecursion IsFrame back
-frames-last [] back all = all
-frames-last (first ∷ frames) back all = frames-last frames back all.1
+  frames-last : (frames back : List Frame) → AllByRecursion P (frames ++ back) → AllByRecursion P back
+  frames-last [] back all = all
+  frames-last (first ∷ frames) back all = frames-last frames back all.1
 
-pub frames_left : (before now : List Frame) (frame : Option Frame) → before ≡ now ++ option_to_list frame → AllByRecursion IsFrame before → AllByRecursion IsFrame now
-frames_left before now frame is all = frames-pop now (option_to_list frame) (subst (AllByRecursion IsFrame) is all)
+  pub frames_left : (before now : List Frame) (frame : Option Frame) → before ≡ now ++ option_to_list frame → AllByRecursion P before → AllByRecursion P now
+  frames_left before now frame is all = frames-pop now (option_to_list frame) (subst (AllByRecursion P) is all)
 
-pub popped_frame : (before now : List Frame) (frame : Option Frame) → before ≡ now ++ option_to_list frame → AllByRecursion IsFrame before → IfSome frame IsFrame
-popped_frame before now None is all = tt
-popped_frame before now (Some frame) is all = (frames-last now (frame ∷ []) (subst (AllByRecursion IsFrame) is all)).0
+  pub popped_frame : (before now : List Frame) (frame : Option Frame) → before ≡ now ++ option_to_list frame → AllByRecursion P before → IfSome frame P
+  popped_frame before now None is all = tt
+  popped_frame before now (Some frame) is all = (frames-last now (frame ∷ []) (subst (AllByRecursion P) is all)).0

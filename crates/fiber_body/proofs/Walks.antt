@@ -41,7 +41,7 @@ use Rattle.fiber_body.proofs.Walking.{Walk, walker}
 
 -- ---- what the walks share
 
-abbrev decls : List Decl
+abbrev pub decls : List Decl
 decls = record { name = []; kind = kind.Trigger } ∷ record { name = []; kind = kind.Comp } ∷ record { name = []; kind = kind.Mutex } ∷ record { name = []; kind = kind.Comp } ∷ record { name = []; kind = kind.Trigger } ∷ []
 
 -- fiber 3 of a script with these blocks
@@ -58,7 +58,7 @@ with registers steps = holding registers [] steps
 abbrev pub said : ℕ → Happened
 said n = event 3 (call.Say n) Plain
 
-abbrev plain : ℕ → List Reply
+abbrev pub plain : ℕ → List Reply
 plain n = replicate n Plain
 
 -- these statements, from one context on, leave this log and end so, with the other context; blocks are by their numbers
@@ -66,10 +66,10 @@ abbrev pub Leaves : List (List Stmt) → List Stmt → Context → List Happened
 Leaves blocks ss c log x d = Runs (within blocks) ss c log (whole x) d
 
 -- what statements of such a script, and what is left of one, come by with these replies
-abbrev ran : (blocks : List (List Stmt)) (ss : List Stmt) (c : Context) → List Reply → Walk (Runs (within blocks) ss c)
+abbrev pub ran : (blocks : List (List Stmt)) (ss : List Stmt) (c : Context) → List Reply → Walk (Runs (within blocks) ss c)
 ran blocks ss c rs = (walker (within blocks) 8).run ss c rs
 
-abbrev acted : (blocks : List (List Stmt)) (p : Phase) (c : Context) → List Reply → Walk (Acts (within blocks) p c)
+abbrev pub acted : (blocks : List (List Stmt)) (p : Phase) (c : Context) → List Reply → Walk (Acts (within blocks) p c)
 acted blocks p c rs = (walker (within blocks) 8).act p c rs
 
 -- ---- statements that change registers and storage alone
@@ -148,7 +148,7 @@ other_replies : Leaves [] (stmt.Return 0 Root (Num 7) ∷ stmt.Cancel 0 Root (Nu
 other_replies = (ran _ _ _ (plain 4)).is
 
 -- a statement that no run serves begins and asks for nothing, and so does one whose computation isn't there
-nothing_asked : Runs (within []) (stmt.Check ∷ stmt.Say (Num 1) ∷ []) (with [] 9) [] (cut (at (calls stmt.Check))) (with [] 8)
+nothing_asked : Runs (within []) (stmt.Terminate ∷ stmt.Say (Num 1) ∷ []) (with [] 9) [] (cut (at (calls stmt.Terminate))) (with [] 8)
 nothing_asked = (ran _ _ _ (plain 2)).is
 
 nobody_peeked_at : Runs (within []) (stmt.Peek 0 1 (Promise 0) ∷ []) (with [] 9) [] (cut (at (calls (stmt.Peek 0 1 (Promise 0))))) (with [] 8)

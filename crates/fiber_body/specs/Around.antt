@@ -10,7 +10,7 @@ use Rattle.fiber_body.specs.declared.standing.Standing.TheVariants as standing
 use Rattle.fiber_body.specs.Context.{Context, Setting, block_at}
 use Rattle.fiber_body.specs.Phases.{Phase, ending, ends}
 use Rattle.fiber_body.specs.Segments.{Acts, Extent, Runs, cut, whole}
-use Rattle.fiber_body.specs.Tables.{Work, catches, closing, ends_text, repeats}
+use Rattle.fiber_body.specs.Tables.{Work, catches, closing, ends_text, repeats, restores}
 use Rattle.fiber_body.specs.Triggers.{phase_of}
 
 -- at a statement of a block, within one, or where the innermost block has ended so
@@ -36,6 +36,7 @@ abbrev pub outer_of : Frame → Outer
 outer_of (frame.Rest block place) = rest block place
 outer_of (frame.Repeats block) = work (repeats block)
 outer_of (frame.Catches register handler) = work (catches register handler)
+outer_of (frame.Restores u) = work (restores u)
 
 -- the end of the text is the outermost thing to do, until the text is left; around a statement that is under way is the
 -- rest of its block

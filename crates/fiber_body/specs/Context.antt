@@ -1,5 +1,6 @@
 -- What statements read and write, and what a fiber's script gives them.
 use Rattle.std.specs.Prelude.{ℕ, ◌+◌, ◌-◌, ◌==◌, nat_lt, nat_le, cond, not, Bool, List, [], ◌∷◌, Option, Some, None, slice_get, slice_index, slice_index_or, slice_set}
+use Rattle.pic_machine.specs.declared.waits.Standing.{Standing}
 use Rattle.script_tree.specs.declared.program.CompRef.{CompRef}
 use Rattle.script_tree.specs.declared.program.CompRef.TheVariants.{Root, Named, Promise}
 use Rattle.script_tree.specs.declared.program.Decl.{Decl}
@@ -76,6 +77,13 @@ value c v = value_in c.registers v
 
 abbrev pub with_register : Context → ℕ → ℕ → Context
 with_register c r v = record c { registers = slice_set c.registers r v }
+
+-- under what the fiber stands: its current computation, and whether it is told of the cancellation of that
+abbrev pub under : Context → Standing
+under c = record { current = c.current; permitted = c.permitted }
+
+abbrev pub standing_under : Standing → Context → Context
+standing_under u c = record c { current = u.current; permitted = u.permitted }
 
 -- a step is made
 abbrev pub stepped : Context → Context

@@ -2,6 +2,7 @@
 use Rattle.std.specs.Prelude.{ℕ, Option}
 use Rattle.pic_base.specs.declared.outcome.Outcome.{Outcome}
 use Rattle.pic_machine.specs.Following.{Following}
+use Rattle.pic_machine.specs.declared.waits.Standing.{Standing}
 use Rattle.pic_machine.specs.Waits.{Waiting}
 use Rattle.script_tree.specs.declared.program.Stmt.{Stmt}
 use Rattle.fiber_body.specs.declared.standing.Exit.{Exit}
@@ -47,6 +48,8 @@ pub data Phase : Type 0 where
   tries : ℕ → ℕ → ℕ → Phase
   -- such a block ended so
   catching : ℕ → ℕ → Exit → Phase
+  -- a block that is run under this
+  runs_under : Standing → ℕ → Phase
   -- a whole text, and the end of its fiber
   lives : ℕ → Phase
   ending : Outcome → Ending → Phase

@@ -1,17 +1,19 @@
 -- What contracts see of a fiber's body.
-use Rattle.std.specs.Prelude.{◌≡◌, ℕ, ◌<◌, Option, Some, None, List, [], ◌∷◌, ⊤}
+use Rattle.std.specs.Prelude.{◌≡◌, ℕ, ◌<◌, ◌≤◌, ◌⊎◌, Option, Some, None, List, [], ◌∷◌, ⊤}
 use Rattle.entry_log.specs.Logged.{Logged}
 use Rattle.pic_base.specs.declared.duty.Duty.{Duty}
 use Rattle.pic_machine.specs.declared.birth.Birth.{Birth}
 use Rattle.pic_machine.specs.declared.entry.Entry.{Entry}
 use Rattle.pic_machine.specs.Sight.{Carry}
+use Rattle.script_tree.specs.declared.thing.Sort.TheVariants as sort
 use Rattle.script_tree.specs.Tree.{Tree}
 use Rattle.fiber_body.specs.declared.standing.Exit.{Exit}
 use Rattle.fiber_body.specs.declared.standing.Standing.{Standing}
 use Rattle.fiber_body.specs.declared.standing.Frame.{Frame}
 use Rattle.fiber_body.specs.declared.standing.Frame.TheVariants as frame
-use Rattle.fiber_body.specs.Context.{Context}
+use Rattle.fiber_body.specs.Context.{Context, count_of}
 use Rattle.fiber_body.specs.Statements.{Effect}
+use Rattle.fiber_body.specs.Texts.{script_in}
 
 -- the program that it shares, which the clock's body has not; what its fiber was made with, and the
 -- fiber's number once it has one; what its statements read and write; where it stands in its text, and what
@@ -59,10 +61,15 @@ abbrev pub IsPopped : Shown → Shown → Option Frame → Type 0
 IsPopped old new None = (old.frames ≡ []) × (new ≡ old)
 IsPopped old new (Some frame) = (outer : List Frame) × (old.frames ≡ frame ∷ outer) × (new ≡ record old { frames = outer })
 
--- the register that a frame names is one
-abbrev pub IsFrame : Frame → Type 0
-IsFrame (frame.Catches register handler) = register < 16
-IsFrame _ = ⊤
+-- a computation that may be current for a fiber of the program: that of its birth, the root or a declared one
+abbrev pub MayBeCurrent : Option Tree → Birth → ℕ → Type 0
+MayBeCurrent program birth comp = (comp ≡ birth.current) ⊎ (comp ≤ count_of sort.Comp (script_in program).decls)
+
+-- the register that a frame names is one, and the computation may be current
+abbrev pub IsFrame : Option Tree → Birth → Frame → Type 0
+IsFrame program birth (frame.Catches register handler) = register < 16
+IsFrame program birth (frame.Restores u) = MayBeCurrent program birth u.current
+IsFrame program birth _ = ⊤
 
 -- the registers and cells are as a statement leaves them that changes these alone, and the answer says how
 -- it ends; of another statement nothing is changed

@@ -1,7 +1,7 @@
 -- How statements begin: those that change registers and storage alone, or only leave their block, come to
 -- their end at once; others have one call, or several, or a block. Statements that no run serves yet have no row: they
 -- begin, and ask for nothing.
-use Rattle.std.specs.Prelude.{ℕ, ◌+◌, ◌-◌, ◌*◌, nat_le, cond, List, Option, Some, None, slice_get, slice_index, slice_set}
+use Rattle.std.specs.Prelude.{ℕ, ◌+◌, ◌-◌, ◌*◌, nat_le, true, false, cond, List, Option, Some, None, slice_get, slice_index, slice_set}
 use Rattle.pic_base.specs.declared.outcome.Outcome.{Outcome}
 use Rattle.pic_base.specs.declared.outcome.Outcome.TheVariants.{Returned, Cancelled}
 use Rattle.pic_machine.specs.Following.{peeking}
@@ -16,8 +16,8 @@ use Rattle.script_tree.specs.declared.program.Stmt.{Stmt}
 use Rattle.script_tree.specs.declared.program.Stmt.TheVariants as stmt
 use Rattle.fiber_body.specs.declared.standing.Exit.{Exit}
 use Rattle.fiber_body.specs.declared.standing.Exit.TheVariants.{Next, Raised, Broke}
-use Rattle.fiber_body.specs.Context.{Context, Numbering, comp_in, holds, limit_met, most, overflow, value, value_in, with_register}
-use Rattle.fiber_body.specs.Phases.{Phase, attaches_to, awaits_comp, awaits_trigger, branches, calls, ended, goes_on, looking, looks, raise, repeating, tries}
+use Rattle.fiber_body.specs.Context.{Context, Numbering, comp_in, holds, limit_met, most, overflow, value, value_in, with_register, under}
+use Rattle.fiber_body.specs.Phases.{Phase, attaches_to, awaits_comp, awaits_trigger, branches, calls, ended, goes_on, looking, looks, raise, repeating, tries, runs_under}
 
 -- ---- statements without a call and without a block
 
@@ -74,6 +74,7 @@ call_of numbers c stmt.Yield = Some call.Yield
 call_of numbers c (stmt.Return r comp v) = on (comp_in numbers.comps comp) (λ k. call.Complete k (Returned (value c v)))
 call_of numbers c (stmt.Cancel r comp v) = on (comp_in numbers.comps comp) (λ k. call.Complete k (Cancelled (value c v)))
 call_of numbers c (stmt.Peek r q comp) = on (comp_in numbers.comps comp) (λ k. call.Peek k)
+call_of numbers c stmt.Check = Some (call.Peek c.current)
 call_of numbers c (stmt.Signal t) = on (slice_get numbers.triggers t) (λ n. call.Signal n)
 call_of numbers c (stmt.Detach comp t) = on (slice_get numbers.triggers t) (λ n. call.Signal n)
 call_of numbers c (stmt.Spawn text v) = Some (call.Fork text (value c v))
@@ -101,6 +102,7 @@ abbrev pub replied : Context → Stmt → Reply → Phase
 replied c (stmt.Return r comp v) (Completed how) = goes_on (with_register c r (won how))
 replied c (stmt.Cancel r comp v) (Completed how) = goes_on (with_register c r (won how))
 replied c (stmt.Peek r q comp) (Peeked seen) = goes_on (with_register (with_register c r (state_number seen)) q (outcome_number seen))
+replied c stmt.Check (Peeked (Some (Cancelled k))) = raise k c
 replied c (stmt.Spawn text v) Full = raise limit_met c
 replied c _ _ = goes_on c
 
@@ -124,6 +126,10 @@ first numbers c (stmt.Wait r comp) = named (comp_in numbers.comps comp) (stmt.Wa
 first numbers c (stmt.If a test b then other) = branches (cond (holds test (value c a) (value c b)) (Some then) other)
 first numbers c (stmt.Loop block) = repeating block Next
 first numbers c (stmt.Try block register handler) = tries block register handler
+first numbers c (stmt.Forbid block) = runs_under (record (under c) { permitted = false }) block
+first numbers c (stmt.Permit block) = runs_under (record (under c) { permitted = true }) block
+first numbers c (stmt.Under comp block) = named (comp_in numbers.comps comp) (stmt.Under comp block) (λ k. runs_under (record (under c) { current = k }) block)
+first numbers c stmt.Check = cond c.permitted (calls stmt.Check) (goes_on c)
 first numbers c one = calls one
 
 abbrev pub or_first : Numbering → Context → Stmt → Option Effect → Phase

@@ -12,10 +12,11 @@ use Rattle.pic_machine.specs.Waits.{full, over, taken, told, woken}
 use Rattle.script_tree.specs.declared.program.Operand.TheVariants.{Reg}
 use Rattle.fiber_body.specs.declared.standing.Exit.{Exit}
 use Rattle.fiber_body.specs.declared.standing.Exit.TheVariants.{Next, Raised, Broke, Spent}
-use Rattle.fiber_body.specs.Context.{Context, Setting, limit_met, no_step, numbering, stepped, taken_already, value, with_register}
-use Rattle.fiber_body.specs.Phases.{Phase, answers, attaches_to, awaits_comp, awaits_trigger, branches, calls, catching, ended, ending, ends, finds_no_place, gone, lives, repeating, suspending, tries, unplaced}
+use Rattle.fiber_body.specs.Context.{Context, Setting, limit_met, no_step, numbering, stepped, taken_already, value, with_register, standing_under, under}
+use Rattle.fiber_body.specs.Phases.{Phase, answers, attaches_to, awaits_comp, awaits_trigger, branches, calls, catching, ended, ending, ends, finds_no_place, gone, lives, repeating, suspending, tries, unplaced, runs_under}
+use Rattle.pic_machine.specs.declared.waits.Standing.{Standing}
 use Rattle.fiber_body.specs.Statements.{call_of, replied}
-use Rattle.fiber_body.specs.Triggers.{attaching_asks, attaching_leads, awaiting_asks, awaiting_leads, under}
+use Rattle.fiber_body.specs.Triggers.{attaching_asks, attaching_leads, awaiting_asks, awaiting_leads}
 
 abbrev pub asks : Setting → Context → Phase → Option Call
 asks s c (calls one) = call_of (numbering s.script.decls) c one
@@ -34,10 +35,11 @@ leads c (ending outcome ends) reply = Some (ending outcome gone)
 leads c _ reply = None
 
 -- what is to be done at the exit of a block: it is the body of a loop, or the block of a register and a handler for
--- what is raised, or a whole text
+-- what is raised, or one before which the fiber stood under this, or a whole text
 pub data Work : Type 0 where
   repeats : ℕ → Work
   catches : ℕ → ℕ → Work
+  restores : Standing → Work
   ends_text : Work
 
 -- where no call is asked for
@@ -73,6 +75,7 @@ settles c (repeating block exit) = Some (ends_by exit c)
 settles c (tries block register handler) = Some (encloses (catches register handler) block c)
 settles c (catching register handler (Raised code)) = Some (goes_into handler (with_register c register code))
 settles c (catching register handler exit) = Some (ends_by exit c)
+settles c (runs_under u block) = Some (encloses (restores (under c)) block (standing_under u c))
 settles c (lives block) = Some (encloses ends_text block c)
 settles c (ending outcome gone) = Some (ends_by Next c)
 settles c (ended exit d) = Some (ends_by exit d)
@@ -89,4 +92,5 @@ outcome_of _ c = Returned (value c (Reg 0))
 abbrev pub closing : Work → Exit → Context → Phase
 closing (repeats block) exit c = repeating block exit
 closing (catches register handler) exit c = catching register handler exit
+closing (restores u) exit c = ended exit (standing_under u c)
 closing ends_text exit c = ending (outcome_of exit c) ends

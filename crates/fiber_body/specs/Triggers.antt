@@ -15,12 +15,8 @@ use Rattle.pic_machine.specs.Following.{following_at}
 use Rattle.pic_machine.specs.Waits.{awake, over, taken, waiting_asks, waiting_at, waiting_leads, waits, woken}
 use Rattle.fiber_body.specs.declared.under_way.UnderWay.{UnderWay}
 use Rattle.fiber_body.specs.declared.under_way.UnderWay.TheVariants.{Places, Awaits, Awake, Attaches, Follows}
-use Rattle.fiber_body.specs.Context.{Context}
+use Rattle.fiber_body.specs.Context.{Context, under}
 use Rattle.fiber_body.specs.Phases.{Attaching, Awaiting, Phase, answers, attaches, attaches_to, awaits_comp, awaits_trigger, finds_no_place, looking, looks, places, placing, suspending, unplaced}
-
--- under what the fiber waits
-abbrev pub under : Context → Standing
-under c = record { current = c.current; permitted = c.permitted }
 
 -- ---- await T: fiber f, for the trigger t
 

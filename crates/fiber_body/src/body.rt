@@ -2,11 +2,10 @@ ghost use Rattle.std.specs.Prelude.{◌≡◌, ◌<◌, ◌-◌, ◌∷◌, Some
 ghost use Rattle.std.specs.Option.{option_map};
 ghost use Rattle.std.specs.Arc.{arc_value};
 ghost use Rattle.script_tree.specs.WellFormed.{IsValue};
-ghost use Rattle.fiber_body.specs.Context.{value, with_register};
+ghost use Rattle.fiber_body.specs.Context.{standing_under, under, value, with_register};
 ghost use Rattle.fiber_body.specs.New.{IsNew};
-ghost use Rattle.fiber_body.specs.Shown.{IsFrame, IsPopped, stood};
+ghost use Rattle.fiber_body.specs.Shown.{IsFrame, IsPopped, MayBeCurrent, stood};
 ghost use Rattle.fiber_body.specs.Texts.{block_in};
-ghost use Rattle.fiber_body.specs.Triggers.{under};
 
 use crate::standing::{Frame, Standing};
 use crate::texts::block_of;
@@ -35,6 +34,8 @@ pub(crate) struct Content {
     pub(crate) registers: [Value; 16],
     pub(crate) cells: [Value; 16],
     steps: u32,
+    current: CompNo,
+    permitted: bool,
     standing: Standing,
     frames: Vec<Frame>,
     pub(crate) noted: FiberLog,
@@ -43,7 +44,7 @@ pub(crate) struct Content {
 }
 
 impl Model for Body {
-    ghost use Rattle.std.specs.Prelude.{reverse, true};
+    ghost use Rattle.std.specs.Prelude.{reverse};
     ghost use Rattle.fiber_body.specs.Shown.{Shown};
     ghost use Rattle.std.specs.Option.{option_map};
     ghost use Rattle.std.specs.Arc.{arc_value};
@@ -58,8 +59,8 @@ impl Model for Body {
         registers = body.content.value.registers;
         cells = body.content.value.cells;
         steps = body.content.value.steps;
-        current = body.content.value.birth.current;
-        permitted = true;
+        current = body.content.value.current;
+        permitted = body.content.value.permitted;
       };
       standing = body.content.value.standing;
       frames = reverse body.content.value.frames.items;
@@ -69,10 +70,11 @@ impl Model for Body {
     } };
 
     ghost use Rattle.std.specs.List.{AllByRecursion};
-    ghost use Rattle.fiber_body.specs.Shown.{IsFrame, KeepsLog};
+    ghost use Rattle.fiber_body.specs.Shown.{IsFrame, KeepsLog, MayBeCurrent};
 
-    ghost invariant = { λ body. AllByRecursion IsFrame body.content.value.frames.items
-        × KeepsLog body.content.value.number body.content.value.noted };
+    ghost invariant = { λ body. AllByRecursion (IsFrame (option_map arc_value body.content.value.program) body.content.value.birth) body.content.value.frames.items
+        × KeepsLog body.content.value.number body.content.value.noted
+        × MayBeCurrent (option_map arc_value body.content.value.program) body.content.value.birth body.content.value.current };
 }
 
 impl Body {
@@ -131,6 +133,8 @@ impl Body {
             registers,
             cells: [0; 16],
             steps: STEPS,
+            current: birth.current,
+            permitted: true,
             standing: Standing::At { block, place: 0 },
             frames: Vec::new(alloc),
             noted: FiberLog::new(alloc, number.unwrap_or(0)),
@@ -148,23 +152,33 @@ impl Body {
         self.content.birth.text
     }
 
-    /// The current computation, which is still the one with which its fiber was made.
+    /// The current computation.
     pub fn current(&self) -> CompNo
         ensures current { result ≡ self.now.context.current }
-        ensures of_birth { result ≡ self.now.birth.current }
+        ensures may { MayBeCurrent self.now.program self.now.birth result }
     {
-        self.content.birth.current
+        self.content.current
     }
 
-    /// Under what its fiber waits: its current computation, of whose cancellation each fiber is told so far.
+    /// Under what its fiber stands and waits: its current computation, and whether it is told of the
+    /// cancellation of that.
     pub fn waits_under(&self) -> pic_machine::Standing
         ensures under { result ≡ under self.now.context }
-        ensures of_birth { result.current ≡ self.now.birth.current }
+        ensures may { MayBeCurrent self.now.program self.now.birth result.current }
     {
         pic_machine::Standing {
-            current: self.content.birth.current,
-            permitted: true,
+            current: self.content.current,
+            permitted: self.content.permitted,
         }
+    }
+
+    /// Lets its fiber stand under this from now on.
+    pub fn stand_under(&mut self, under: pic_machine::Standing)
+        requires { MayBeCurrent self.old.program self.old.birth under.current }
+        ensures { self.new ≡ record self.old { context = standing_under under self.old.context } }
+    {
+        self.content.current = under.current;
+        self.content.permitted = under.permitted;
     }
 
     /// The visible entries of its fiber so far.
@@ -226,7 +240,7 @@ impl Body {
 
     /// Puts a frame around the block in which it is to stand.
     pub fn push_frame(&mut self, frame: Frame) -> Result<(), Memory>
-        requires { IsFrame frame }
+        requires { IsFrame self.old.program self.old.birth frame }
         ensures pushed { OnOk result (self.new ≡ record self.old { frames = frame ∷ self.old.frames }) }
         ensures kept { OnErr result (self.new ≡ self.old) }
     {
@@ -244,7 +258,7 @@ impl Body {
     /// Takes the innermost frame away, if anything is around the block in which it stands.
     pub fn pop_frame(&mut self) -> Option<Frame>
         ensures popped { IsPopped self.old self.new result }
-        ensures frame { IfSome result IsFrame }
+        ensures frame { IfSome result (IsFrame self.new.program self.new.birth) }
     {
         self.content.frames.pop()
     }

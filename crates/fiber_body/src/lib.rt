@@ -16,7 +16,8 @@
 //! Three files of `specs/` are laws on which proofs above stand too: `Framing`, what each row of the tables
 //! makes of where a fiber stands, once for all statements; `Laws`, that a body fits where its log leads to
 //! it, and goes on to fit where something else of it changes; and `Places`, what stands at a place of a
-//! list. The walks of `proofs/Walks.antt` go through each line of the tables by given replies.
+//! list. The walks of `proofs/Walks.antt` and `proofs/WalksUnder.antt` go through each line of the tables by
+//! given replies.
 //!
 //! Pollers use a body's calls: `change` for a statement that makes no entry and has no block, `stand` and
 //! the calls on frames for all others; with `Numbers` they find the triggers and computations that statements

@@ -46,4 +46,6 @@ pub enum Frame {
     /// The exit of the block of a `try`: where a code is raised, the register gets it and the block
     /// `handler` runs.
     Catches { register: u8, handler: u32 },
+    /// The exit of a block before which the fiber stood under this: it stands under it again.
+    Restores(pic_machine::Standing),
 }

@@ -89,6 +89,23 @@ fn the_innermost_frame_is_taken_away_first(rt: HostRuntime) -> Result<(), Fail> 
     Ok(())
 }
 
+#[test]
+fn a_body_stands_under_something_else(rt: HostRuntime) -> Result<(), Fail> {
+    let mut body = Body::clock(rt.alloc())?;
+    let before = body.waits_under();
+    assert_eq!(rt; before.current, 0);
+    assert!(rt; before.permitted);
+    body.push_frame(Frame::Restores(before))?;
+    body.stand_under(pic_machine::Standing {
+        current: before.current,
+        permitted: false,
+    });
+    assert_eq!(rt; body.current(), 0);
+    assert!(rt; !body.waits_under().permitted);
+    assert_eq!(rt; body.pop_frame(), Some(Frame::Restores(before)));
+    Ok(())
+}
+
 /// What the statement at this place of the block makes of the body.
 fn changed(
     program: &Program,

@@ -23,7 +23,7 @@ use Rattle.fiber_body.specs.declared.standing.Standing.{Standing}
 use Rattle.fiber_body.specs.declared.standing.Standing.TheVariants.{At, Within, Ended}
 use Rattle.fiber_body.specs.declared.under_way.UnderWay.{UnderWay}
 use Rattle.fiber_body.specs.Around.{Leads, Outer, at_stmt, rest, within}
-use Rattle.fiber_body.specs.Context.{Context, Setting, numbering, stepped}
+use Rattle.fiber_body.specs.Context.{Context, Setting, numbering, stepped, under}
 use Rattle.fiber_body.specs.Fits.{LeadsTo, setting_of}
 use Rattle.fiber_body.specs.Follows.{context_of}
 use Rattle.fiber_body.specs.Framing.{ends_ahead, leads_entry}
@@ -34,7 +34,7 @@ use Rattle.fiber_body.specs.Shown.{IsSameRest, Shown, carry_of}
 use Rattle.fiber_body.specs.Statements.{begins, born}
 use Rattle.fiber_body.specs.Tables.{asks, ends_by, leads, settles}
 use Rattle.fiber_body.specs.Texts.{block_in, script_in}
-use Rattle.fiber_body.specs.Triggers.{phase_of, under}
+use Rattle.fiber_body.specs.Triggers.{phase_of}
 use Rattle.fiber_poll.specs.declared.spot.Spot.{Spot}
 use Rattle.fiber_poll.specs.Moving.{CostsStep, IsBefore, IsBetween, behind_at}
 use Rattle.fiber_poll.specs.UnderWay.{IsOn, IsUp}

@@ -1,12 +1,14 @@
 -- Statements that ask for one call: which one, and where its entry leads.
 use Rattle.std.specs.Prelude.{IsTrue}
-use Rattle.std.proofs.Common.{◌≡◌, ◌≢◌, ℕ, zero, suc, ◌+◌, ◌<◌, ◌≤◌, ◌==◌, Bool, false, cond, slice_get, Option, Some, None, List, [], ◌∷◌, ◌++◌, refl, sym, ap, subst, ◌∙◌, arith}
+use Rattle.std.proofs.Common.{◌≡◌, ◌≢◌, ℕ, zero, suc, ◌+◌, ◌<◌, ◌≤◌, ◌==◌, inr, Bool, true, false, cond, slice_get, Option, Some, None, List, [], ◌∷◌, ◌++◌, refl, sym, ap, subst, ◌∙◌, arith}
+use Rattle.pic_base.specs.declared.outcome.Outcome.TheVariants.{Cancelled}
 use Rattle.pic_machine.specs.declared.birth.Birth.{Birth}
 use Rattle.pic_machine.specs.declared.entry.Call.{Call}
 use Rattle.pic_machine.specs.declared.entry.Call.TheVariants as asked
 use Rattle.pic_machine.specs.declared.entry.Reply.{Reply}
 use Rattle.pic_machine.specs.declared.entry.Reply.TheVariants.{Completed, Full, Peeked}
 use Rattle.pic_machine.specs.Following.{peeking}
+use Rattle.pic_machine.specs.declared.waits.Standing.{Standing as Under}
 use Rattle.pic_machine.specs.Happened.{Happened}
 use Rattle.pic_machine.specs.Log.{is_turn, log, own}
 use Rattle.pic_machine.specs.Order.{GoesOn}
@@ -25,14 +27,14 @@ use Rattle.fiber_body.specs.declared.standing.Exit.{Exit}
 use Rattle.fiber_body.specs.declared.standing.Exit.TheVariants.{Next, Raised}
 use Rattle.fiber_body.specs.declared.standing.Standing.TheVariants.{At}
 use Rattle.fiber_body.specs.Around.{Leads, Outer, Place, at_stmt, rest, within}
-use Rattle.fiber_body.specs.Context.{Context, Numbering, Setting, behind_decl, comp_in, count_of, limit_met, numbering, numbers_of, stepped, with_register}
+use Rattle.fiber_body.specs.Context.{Context, Numbering, Setting, behind_decl, comp_in, count_of, limit_met, numbering, numbers_of, stepped, under, with_register}
 use Rattle.fiber_body.specs.Fits.{LeadsTo, setting_of}
 use Rattle.fiber_body.specs.Follows.{context_of}
 use Rattle.fiber_body.specs.Framing.{ends_ahead, leads_entry}
 use Rattle.fiber_body.specs.Numbering.{more_counted}
-use Rattle.fiber_body.specs.Phases.{Phase, attaches_to, awaits_comp, awaits_trigger, calls, ended, lives, looking, looks}
+use Rattle.fiber_body.specs.Phases.{Phase, attaches_to, awaits_comp, awaits_trigger, calls, ended, lives, looking, looks, goes_on, runs_under}
 use Rattle.fiber_body.specs.Segments.{happens}
-use Rattle.fiber_body.specs.Shown.{IsSameRest, Shown, carry_of}
+use Rattle.fiber_body.specs.Shown.{IsSameRest, MayBeCurrent, Shown, carry_of}
 use Rattle.fiber_body.specs.Statements.{begins, born, call_of, first, named as begins_named, on, or_first, outcome_number, replied, result, state_number, won}
 use Rattle.fiber_body.specs.Texts.{block_in, script_in}
 use Rattle.fiber_poll.specs.declared.spot.Spot.{Spot}
@@ -46,8 +48,21 @@ use Rattle.fiber_poll.proofs.Moves.{behind, behind_between, costly, framed, stan
 
 -- ---- how such a statement begins
 
+told_stepped : (permitted : Bool) (c d : Context) → cond permitted (calls stmt.Check) (goes_on c) ≡ calls stmt.Check → cond permitted (calls stmt.Check) (goes_on d) ≡ calls stmt.Check
+told_stepped true c d is = refl
+told_stepped false c d is = absurd cc
+
+under_stepped : (comp : CompRef) (block : ℕ) (number : Option ℕ) (c d : Context) → begins_named number (stmt.Under comp block) (λ k. runs_under (record (under c) { current = k }) block) ≡ calls (stmt.Under comp block)
+    → begins_named number (stmt.Under comp block) (λ k. runs_under (record (under d) { current = k }) block) ≡ calls (stmt.Under comp block)
+under_stepped comp block None c d is = refl
+under_stepped comp block (Some k) c d is = absurd cc
+
 first_stepped : (numbers : Numbering) (c : Context) (one : Stmt) → first numbers c one ≡ calls one → first numbers (stepped c) one ≡ calls one
 first_stepped numbers c (stmt.If a test b then other) is = is
+first_stepped numbers c stmt.Check is = told_stepped c.permitted c (stepped c) is
+first_stepped numbers c (stmt.Under comp block) is = under_stepped comp block (comp_in numbers.comps comp) c (stepped c) is
+first_stepped numbers c (stmt.Forbid block) is = absurd cc
+first_stepped numbers c (stmt.Permit block) is = absurd cc
 first_stepped numbers c _ is = is
 
 costs_call : (numbers : Numbering) (c : Context) (one : Stmt) → first numbers c one ≡ calls one → CostsStep one
@@ -73,6 +88,7 @@ pub ends_by_reply : (c : Context) (one : Stmt) (reply : Reply) → EndsBy c (rep
 ends_by_reply c (stmt.Return r comp v) (Completed how) = record { exit = Next; context = with_register c r (won how); is = refl; steps = refl }
 ends_by_reply c (stmt.Cancel r comp v) (Completed how) = record { exit = Next; context = with_register c r (won how); is = refl; steps = refl }
 ends_by_reply c (stmt.Peek r q comp) (Peeked seen) = record { exit = Next; context = with_register (with_register c r (state_number seen)) q (outcome_number seen); is = refl; steps = refl }
+ends_by_reply c stmt.Check (Peeked (Some (Cancelled k))) = record { exit = Raised k; context = c; is = refl; steps = refl }
 ends_by_reply c (stmt.Spawn text v) Full = record { exit = Raised limit_met; context = c; is = refl; steps = refl }
 ends_by_reply c _ _ = record { exit = Next; context = c; is = refl; steps = refl }
 
@@ -153,26 +169,37 @@ comp_there tree (Named place) is built = let found = numbered sort.Comp 1 tree.d
 comp_there tree (PromiseIn register) is built = absurd cc
 
 -- the call, if there is one, may be made
-abbrev IsAsked : Tree → Option Call → Type 0
-IsAsked tree None = ⊥
-IsAsked tree (Some call) = CanAsk tree call
+abbrev IsAsked : Tree → Birth → Option Call → Type 0
+IsAsked tree birth None = ⊥
+IsAsked tree birth (Some call) = CanAsk tree birth call
 
-module _ (tree : Tree) (c : Context) where
-  named : (comp : CompRef) (call : ℕ → Call) → ((k : ℕ) → k ≤ count_of sort.Comp tree.decls → CanAsk tree (call k)) → IsComp tree comp → IsTrue (is_built_comp comp) → IsAsked tree (on (comp_in (numbers_of sort.Comp 1 tree.decls) comp) call)
-  named comp call can is built = let found = comp_there tree comp is built in subst (λ (o : Option ℕ). IsAsked tree (on o call)) (sym found.1) (can found.0 found.2)
+-- what a check peeks at may be current
+abbrev pub ChecksThere : Tree → Birth → Context → Stmt → Type 0
+ChecksThere tree birth c one = one ≡ stmt.Check → MayBeCurrent (Some tree) birth c.current
 
-  signalled : (place : ℕ) → IsOfSort (λ s. s == 0) (slice_get tree.decls place) → IsAsked tree (on (slice_get (numbers_of sort.Trigger 0 tree.decls) place) (λ n. asked.Signal n))
+module _ (tree : Tree) (birth : Birth) (c : Context) where
+  named : (comp : CompRef) (call : ℕ → Call) → ((k : ℕ) → k ≤ count_of sort.Comp tree.decls → CanAsk tree birth (call k)) → IsComp tree comp → IsTrue (is_built_comp comp) → IsAsked tree birth (on (comp_in (numbers_of sort.Comp 1 tree.decls) comp) call)
+  named comp call can is built = let found = comp_there tree comp is built in subst (λ (o : Option ℕ). IsAsked tree birth (on o call)) (sym found.1) (can found.0 found.2)
+
+  signalled : (place : ℕ) → IsOfSort (λ s. s == 0) (slice_get tree.decls place) → IsAsked tree birth (on (slice_get (numbers_of sort.Trigger 0 tree.decls) place) (λ n. asked.Signal n))
   signalled place is =
       let found = numbered sort.Trigger 0 tree.decls place is in
-      subst (λ (o : Option ℕ). IsAsked tree (on o (λ n. asked.Signal n))) (sym found.1) (omega (arith, found.2))
+      subst (λ (o : Option ℕ). IsAsked tree birth (on o (λ n. asked.Signal n))) (sym found.1) (omega (arith, found.2))
 
-  asks_by : (holder : ℕ) (one : Stmt) → StmtFits tree holder one → IsTrue (is_built_stmt one) → result c.registers c.cells one ≡ None → first (numbering tree.decls) c one ≡ calls one → one ≢ stmt.Yield
-      → IsAsked tree (call_of (numbering tree.decls) (stepped c) one)
-  asks_by holder stmt.Yield fits built none is apart = absurd (apart refl)
-  asks_by holder (stmt.Await place) fits built none is apart =
+  asks_by : (holder : ℕ) (one : Stmt) → StmtFits tree holder one → IsTrue (is_built_stmt one) → result c.registers c.cells one ≡ None → first (numbering tree.decls) c one ≡ calls one → one ≢ stmt.Yield → ChecksThere tree birth c one
+      → IsAsked tree birth (call_of (numbering tree.decls) (stepped c) one)
+  asks_by holder stmt.Yield fits built none is apart checks = absurd (apart refl)
+  asks_by holder stmt.Check fits built none is apart checks = checks refl
+  asks_by holder (stmt.Peek r q comp) fits built none is apart checks = named comp (λ k. asked.Peek k) (λ k few. inr few) fits.1.1.0 built
+  asks_by holder (stmt.Under comp block) fits built none is apart checks =
+      let one : Stmt = stmt.Under comp block in
+      let found = comp_there tree comp fits.0.0 built in
+      let u : ℕ → Under = λ k. record (under c) { current = k } in
+      absurd (let there : runs_under (u found.0) block ≡ calls one = subst (λ (o : Option ℕ). begins_named o one (λ k. runs_under (u k) block) ≡ calls one) found.1 is in cc)
+  asks_by holder (stmt.Await place) fits built none is apart checks =
       let found = numbered sort.Trigger 0 tree.decls place fits.0 in
       absurd (let there : awaits_trigger found.0 looking ≡ calls (stmt.Await place) = subst (λ (o : Option ℕ). begins_named o (stmt.Await place) (λ n. awaits_trigger n looking) ≡ calls (stmt.Await place)) found.1 is in cc)
-  asks_by holder (stmt.Attach r comp place) fits built none is apart =
+  asks_by holder (stmt.Attach r comp place) fits built none is apart checks =
       let one : Stmt = stmt.Attach r comp place in
       let trigger = numbered sort.Trigger 0 tree.decls place fits.1.1.0 in
       let found = comp_there tree comp fits.1.0 built in
@@ -180,34 +207,34 @@ module _ (tree : Tree) (c : Context) where
       absurd (let there : attaches_to r found.0 trigger.0 looks ≡ calls one =
       subst (λ (o : Option ℕ). begins_named o one (λ n. attaches_to r found.0 n looks) ≡ calls one) trigger.1
       (subst (λ (o : Option ℕ). begins_named o one (λ k. begins_named (slice_get triggers place) one (λ n. attaches_to r k n looks)) ≡ calls one) found.1 is) in cc)
-  asks_by holder (stmt.Wait r comp) fits built none is apart =
+  asks_by holder (stmt.Wait r comp) fits built none is apart checks =
       let found = comp_there tree comp fits.1.0 built in
       absurd (let there : awaits_comp r found.0 peeking ≡ calls (stmt.Wait r comp) = subst (λ (o : Option ℕ). begins_named o (stmt.Wait r comp) (λ k. awaits_comp r k peeking) ≡ calls (stmt.Wait r comp)) found.1 is in cc)
-  asks_by holder _ fits built none is apart = first_of (search (named, signalled, fits, built), cc)
+  asks_by holder _ fits built none is apart checks = first_of (search (named, signalled, fits, built), cc)
 
-  module _ (numbers : Numbering) (counted : numbers ≡ numbering tree.decls) (one : Stmt) (can : CanRun tree one) (none : result c.registers c.cells one ≡ None) (is : first (numbering tree.decls) c one ≡ calls one) (apart : one ≢ stmt.Yield) where
-    asked_one : (found : Option Call) → call_of numbers (stepped c) one ≡ found → IsAsked tree found
-    asked_one found same = subst (IsAsked tree) (ap (λ (ns : Numbering). call_of ns (stepped c) one) (sym counted) ∙ same) (asks_by can.holder one can.fits can.built none is apart)
+  module _ (numbers : Numbering) (counted : numbers ≡ numbering tree.decls) (one : Stmt) (can : CanRun tree one) (none : result c.registers c.cells one ≡ None) (is : first (numbering tree.decls) c one ≡ calls one) (apart : one ≢ stmt.Yield) (checks : ChecksThere tree birth c one) where
+    asked_one : (found : Option Call) → call_of numbers (stepped c) one ≡ found → IsAsked tree birth found
+    asked_one found same = subst (IsAsked tree birth) (ap (λ (ns : Numbering). call_of ns (stepped c) one) (sym counted) ∙ same) (asks_by can.holder one can.fits can.built none is apart checks)
 
     -- the statement asks for a call
     pub asks_some : call_of numbers (stepped c) one ≢ None
     asks_some same = asked_one None same
 
     -- which may be made
-    pub can_ask : (call : Call) → call_of numbers (stepped c) one ≡ Some call → CanAsk tree call
+    pub can_ask : (call : Call) → call_of numbers (stepped c) one ≡ Some call → CanAsk tree birth call
     can_ask call same = asked_one (Some call) same
 
 -- such a call ends no turn, and begins none
-goes_on_by : (tree : Tree) (f : ℕ) (call : Call) (reply : Reply) (birth : Option Birth) → CanAsk tree call → GoesOn (happens f call reply birth) × (is_turn call ≡ false)
-goes_on_by tree f (asked.Say v) reply birth can = (refl, refl)
-goes_on_by tree f (asked.Peek comp) reply birth can = (refl, refl)
-goes_on_by tree f (asked.Complete comp outcome) reply birth can = (refl, refl)
-goes_on_by tree f (asked.Signal trigger) reply birth can = (refl, refl)
-goes_on_by tree f (asked.Fork text v) reply birth can = (refl, refl)
-goes_on_by tree f _ reply birth can = absurd can
+goes_on_by : (tree : Tree) (mine : Birth) (f : ℕ) (call : Call) (reply : Reply) (birth : Option Birth) → CanAsk tree mine call → GoesOn (happens f call reply birth) × (is_turn call ≡ false)
+goes_on_by tree mine f (asked.Say v) reply birth can = (refl, refl)
+goes_on_by tree mine f (asked.Peek comp) reply birth can = (refl, refl)
+goes_on_by tree mine f (asked.Complete comp outcome) reply birth can = (refl, refl)
+goes_on_by tree mine f (asked.Signal trigger) reply birth can = (refl, refl)
+goes_on_by tree mine f (asked.Fork text v) reply birth can = (refl, refl)
+goes_on_by tree mine f _ reply birth can = absurd can
 
 -- room was made for the entry, and it was made, and the reply has ended the statement
-module _ (p q : Sight (Option Tree)) (before now : Option (List ℕ)) (tree : Tree) (spot : Spot) (one : Stmt) (call : Call) (reply : Reply) (can : CanAsk tree call) where
+module _ (p q : Sight (Option Tree)) (before now : Option (List ℕ)) (tree : Tree) (spot : Spot) (one : Stmt) (call : Call) (reply : Reply) (mine : Birth) (can : CanAsk tree mine call) where
   on_made : (a b : Shown) → IsUp p a → IsBefore a spot one → result a.context.registers a.context.cells one ≡ None → first (numbering (script_in a.program).decls) a.context one ≡ calls one
       → call_of (numbering (script_in a.program).decls) (stepped a.context) one ≡ Some call → IsMade p q a b before now call reply
       → IsOn p q a (taken b spot (replied (stepped b.context) one reply)) before now
@@ -215,7 +242,7 @@ module _ (p q : Sight (Option Tree)) (before now : Option (List ℕ)) (tree : Tr
       let f = fiber_of (carry_of a) in
       let h = happens f call reply (born a.context call) in
       let e = ends_by_reply (stepped a.context) one reply in
-      let goes = goes_on_by tree f call reply (born a.context call) can in
+      let goes = goes_on_by tree mine f call reply (born a.context call) can in
       let there : taken b spot (replied (stepped b.context) one reply) ≡ left_by b spot e.exit e.context =
       ap (λ (c : Context). taken b spot (replied (stepped c) one reply)) made.rest.context ∙ taken_is b spot (stepped a.context) (replied (stepped a.context) one reply) e in
       let same : left_by b spot e.exit e.context ≡ record (left_by a spot e.exit e.context) { number = b.number; noted = b.noted; room = b.room; owes = b.owes } = rw (made.rest.frames, made.lent.birth, made.lent.share) refl in

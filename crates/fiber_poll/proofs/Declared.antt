@@ -1,5 +1,5 @@
 -- What statements name that look at a trigger first is declared, and stands.
-use Rattle.std.proofs.Common.{◌≡◌, ◌≢◌, ℕ, ◌-◌, ◌<◌, ◌≤◌, Option, Some, None, List, [], ◌∷◌, slice_get, refl, sym, ap, subst, ◌∙◌, arith}
+use Rattle.std.proofs.Common.{◌≡◌, ◌≢◌, ℕ, ◌-◌, ◌<◌, ◌≤◌, Option, Some, None, List, [], ◌∷◌, slice_get, refl, sym, ap, subst, ◌∙◌, arith, Bool, cond}
 use Rattle.pic_machine.specs.declared.entry.Call.TheVariants as asked
 use Rattle.pic_machine.specs.declared.entry.Reply.TheVariants as reply
 use Rattle.pic_machine.specs.declared.state.TrigState.{TrigState}
@@ -15,17 +15,20 @@ use Rattle.script_tree.specs.declared.program.Stmt.{Stmt}
 use Rattle.script_tree.specs.declared.program.Stmt.TheVariants as stmt
 use Rattle.script_tree.specs.declared.thing.Sort.TheVariants as sort
 use Rattle.script_tree.specs.Tree.{Tree}
+use Rattle.script_tree.specs.WellFormed.{IsComp}
+use Rattle.std.specs.Prelude.{IsTrue}
+use Rattle.fiber_poll.specs.Built.{is_built_comp}
 use Rattle.fiber_body.specs.declared.standing.Standing.{Standing}
 use Rattle.fiber_body.specs.declared.standing.Standing.TheVariants.{At, Within}
 use Rattle.fiber_body.specs.declared.under_way.UnderWay.TheVariants.{Attaches, Follows}
 use Rattle.fiber_body.specs.Context.{Context, Numbering, comp_in, count_of, numbering, with_register}
 use Rattle.fiber_body.specs.Owns.{IsDeclared, OwnsAttachment, OwnsFollowing}
-use Rattle.fiber_body.specs.Phases.{calls}
+use Rattle.fiber_body.specs.Phases.{calls, goes_on}
 use Rattle.fiber_body.specs.Statements.{first}
 use Rattle.fiber_body.specs.Shown.{IsSameRest, Shown, carry_of, stood}
 use Rattle.fiber_body.specs.Texts.{script_in}
 use Rattle.fiber_poll.specs.declared.spot.Spot.{Spot}
-use Rattle.fiber_poll.specs.Moving.{HasCall, IsBefore, behind_at, seen_by_wait, unmade, weight, weight_at}
+use Rattle.fiber_poll.specs.Moving.{HasCall, IsBefore, behind_at, seen_by_wait, unmade, weight, weight_at, IsWaiting}
 use Rattle.fiber_poll.specs.Polls.{IsPortOf}
 use Rattle.fiber_poll.specs.UnderWay.{CanRun, IsOn, IsUp}
 use Rattle.fiber_body.specs.declared.standing.Exit.TheVariants.{Next}
@@ -43,6 +46,21 @@ pub is_numbered_comp : {numbers counted : Numbering} (comp : CompRef) {found : O
 is_numbered_comp comp k same found_is number none =
     let both : Some k ≡ None = sym number ∙ (sym (ap (λ (ns : Numbering). comp_in ns.comps comp) same) ∙ (sym found_is ∙ none)) in cc
 
+-- a statement that waits and has no block has a call
+pub has_call : (c : Context) (one : Stmt) → IsWaiting c one → ((block : ℕ) → one ≢ stmt.Loop block) → ((block register handler : ℕ) → one ≢ stmt.Try block register handler) → ((block : ℕ) → one ≢ stmt.Forbid block)
+    → ((block : ℕ) → one ≢ stmt.Permit block) → ((comp : CompRef) (block : ℕ) → one ≢ stmt.Under comp block) → HasCall c one
+has_call c (stmt.If left test right then other) waits no_loop no_try no_forbid no_permit no_under = absurd waits.no_test
+has_call c (stmt.Loop block) waits no_loop no_try no_forbid no_permit no_under = absurd (no_loop block refl)
+has_call c (stmt.Try block register handler) waits no_loop no_try no_forbid no_permit no_under = absurd (no_try block register handler refl)
+has_call c (stmt.Forbid block) waits no_loop no_try no_forbid no_permit no_under = absurd (no_forbid block refl)
+has_call c (stmt.Permit block) waits no_loop no_try no_forbid no_permit no_under = absurd (no_permit block refl)
+has_call c (stmt.Under comp block) waits no_loop no_try no_forbid no_permit no_under = absurd (no_under comp block refl)
+has_call c stmt.Check waits no_loop no_try no_forbid no_permit no_under = λ numbers. ap (λ (told : Bool). cond told (calls stmt.Check) (goes_on c)) waits.told
+has_call c (stmt.Await trigger) waits no_loop no_try no_forbid no_permit no_under = tt
+has_call c (stmt.Attach register comp trigger) waits no_loop no_try no_forbid no_permit no_under = tt
+has_call c (stmt.Wait register comp) waits no_loop no_try no_forbid no_permit no_under = tt
+has_call c _ waits no_loop no_try no_forbid no_permit no_under = λ numbers. refl
+
 -- any other statement with a call has one
 pub calls_else : (numbers : Numbering) (c : Context) (one : Stmt) → HasCall c one → ((t : ℕ) → one ≢ stmt.Await t) → ((r : ℕ) (comp : CompRef) (t : ℕ) → one ≢ stmt.Attach r comp t) → ((r : ℕ) (comp : CompRef) → one ≢ stmt.Wait r comp) → first numbers c one ≡ calls one
 calls_else numbers c (stmt.Await t) has no_await no_attach no_wait = absurd (no_await t refl)
@@ -51,6 +69,15 @@ calls_else numbers c (stmt.Wait r comp) has no_await no_attach no_wait = absurd 
 calls_else numbers c _ has no_await no_attach no_wait = has numbers
 
 module _ (tree : Tree) where
+  -- ---- under
+
+  pub declared_comp : (comp : CompRef) (k : ℕ) → IsComp tree comp → IsTrue (is_built_comp comp) → comp_in (numbering tree.decls).comps comp ≡ Some k → k ≤ count_of sort.Comp tree.decls
+  declared_comp comp k declared built is =
+      let found = comp_there tree comp declared built in
+      let both : Some found.0 ≡ Some k = sym found.1 ∙ is in
+      let same : found.0 ≡ k = cc in
+      subst (λ (n : ℕ). n ≤ count_of sort.Comp tree.decls) same found.2
+
   -- ---- await
 
   pub await_number : (place : ℕ) → CanRun tree (stmt.Await place) → (t : ℕ) × (slice_get (numbering tree.decls).triggers place ≡ Some t) × IsDeclared tree t

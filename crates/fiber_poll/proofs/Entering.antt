@@ -2,24 +2,26 @@
 use Rattle.std.proofs.Common.{◌≡◌, ◌≢◌, ℕ, ◌+◌, ◌-◌, ◌<◌, ◌≤◌, nat_lt, cond, Bool, true, false, Option, Some, None, List, [], ◌∷◌, length, slice_get, refl, sym, ap, subst, ◌∙◌, arith}
 use Rattle.std.specs.Bool.{OnTrue}
 use Rattle.std.proofs.lemmas.Bool.Decides.{nat_tests}
+use Rattle.pic_machine.specs.declared.waits.Standing.{Standing as Under}
 use Rattle.script_tree.specs.declared.program.Stmt.{Stmt}
 use Rattle.script_tree.specs.declared.program.Stmt.TheVariants as stmt
 use Rattle.fiber_body.specs.declared.standing.Exit.{Exit}
 use Rattle.fiber_body.specs.declared.standing.Exit.TheVariants.{Next, Raised, Broke, Spent}
 use Rattle.fiber_body.specs.declared.standing.Frame.{Frame}
-use Rattle.fiber_body.specs.declared.standing.Frame.TheVariants.{Rest, Repeats, Catches}
+use Rattle.fiber_body.specs.declared.standing.Frame.TheVariants.{Rest, Repeats, Catches, Restores}
 use Rattle.fiber_body.specs.declared.standing.Standing.TheVariants.{At, Out, Ending}
 use Rattle.fiber_body.specs.Around.{Turns, around_of, at_stmt, out, place_of, rest}
 use Rattle.fiber_body.specs.Context.{Context, block_at, numbering, stepped}
 use Rattle.fiber_body.specs.Fits.{setting_of}
 use Rattle.fiber_body.specs.Framing.{begins_ahead, closes_ahead, end_ahead, ends_ahead, enters_ahead, goes_ahead, nothing_ahead, passes_ahead, rest_ahead, spent_ahead}
-use Rattle.fiber_body.specs.Phases.{repeating}
+use Rattle.fiber_body.specs.Phases.{repeating, runs_under}
 use Rattle.fiber_body.specs.Places.{at_place, past_end}
 use Rattle.fiber_body.specs.Shown.{Shown, carry_of, stood}
-use Rattle.fiber_body.specs.Tables.{catches, ends_by, ends_text, outcome_of, repeats, settles}
+use Rattle.fiber_body.specs.Statements.{begins}
+use Rattle.fiber_body.specs.Tables.{catches, ends_by, ends_text, outcome_of, repeats, restores, settles}
 use Rattle.fiber_body.specs.Texts.{script_in}
 use Rattle.fiber_poll.specs.declared.spot.Spot.{Spot}
-use Rattle.fiber_poll.specs.Moving.{ChoosesBlock, Goes, IsAt, IsBefore, IsBetween, branched, entered, passed, round_of, weight}
+use Rattle.fiber_poll.specs.Moving.{ChoosesBlock, CostsStep, Goes, IsAt, IsBefore, IsBetween, branched, entered, entered_under, passed, round_of, weight}
 use Rattle.fiber_poll.proofs.Moves.{before_on, behind, begun_goes, framed, goes_by, goes_trans, headed, round_row, same_blocks, stands_at}
 
 -- ---- entering
@@ -45,6 +47,11 @@ module _ (a : Shown) (spot : Spot) where
 
   pub try_goes : (block register handler : ℕ) → IsBefore a spot (stmt.Try block register handler) → Goes a (entered a spot (Catches register handler ∷ []) block)
   try_goes block register handler before = begun_goes before tt refl tt (λ f. enters_ahead (setting_of a f) (rest spot.block (spot.place + 1) ∷ framed a.frames) refl)
+
+  -- a block is run under this
+  pub under_goes : (one : Stmt) (u : Under) (block : ℕ) → IsBefore a spot one → CostsStep one → begins (numbering (script_in a.program).decls) (stepped a.context) one ≡ runs_under u block → Goes a (entered_under a spot u block)
+  under_goes one u block before costs is =
+      begun_goes before costs refl tt (λ f. enters_ahead (setting_of a f) (rest spot.block (spot.place + 1) ∷ framed a.frames) (ap (settles (stepped a.context)) is))
 
   -- no step is left
   pub spent_goes : (one : Stmt) → IsAt a spot one → a.context.steps ≡ 0 → Goes a (stood a (Out Spent) 0)
@@ -136,6 +143,10 @@ module _ (a : Shown) (outer : List Frame) where
   catches_goes register handler x = closed (Catches register handler) x (w (Catches register handler) x) refl (λ f tail y e ahead. let s = setting_of a f in
       closes_ahead s (catches register handler) (framed outer) x a.context tail y e (ends_ahead s (framed outer) refl tail y e ahead)) tt
 
+  restores_goes : (u : Under) (x : Exit) → Goes (v x (Restores u)) (w (Restores u) x)
+  restores_goes u x = closed (Restores u) x (w (Restores u) x) refl (λ f tail y e ahead. let s = setting_of a f in
+      closes_ahead s (restores u) (framed outer) x a.context tail y e (ends_ahead s (framed outer) refl tail y e ahead)) tt
+
   rest_goes : (block place : ℕ) (x : Exit) → Goes (v x (Rest block place)) (w (Rest block place) x)
   rest_goes block place Next = closed (Rest block place) Next (w (Rest block place) Next) refl (λ f. rest_ahead (setting_of a f) block place (framed outer) a.context) tt
   rest_goes block place x = closed (Rest block place) x (w (Rest block place) x) refl (λ f. passes_ahead (setting_of a f) block place (framed outer) x a.context (λ q. cc)) tt
@@ -143,6 +154,7 @@ module _ (a : Shown) (outer : List Frame) where
   pub pass_goes : (frame : Frame) (x : Exit) → (x ≡ Next → (block : ℕ) → frame ≡ Repeats block → a.context.steps ≡ 0) → Goes (v x frame) (w frame x)
   pass_goes (Repeats block) x none = repeats_goes block x (λ is. none is block refl)
   pass_goes (Catches register handler) x none = catches_goes register handler x
+  pass_goes (Restores u) x none = restores_goes u x
   pass_goes (Rest block place) x none = rest_goes block place x
 
 -- ---- which loop goes round

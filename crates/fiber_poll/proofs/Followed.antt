@@ -28,14 +28,13 @@ use Rattle.fiber_body.specs.declared.standing.Standing.{Standing}
 use Rattle.fiber_body.specs.declared.standing.Standing.TheVariants.{Within}
 use Rattle.fiber_body.specs.declared.under_way.UnderWay.{UnderWay}
 use Rattle.fiber_body.specs.declared.under_way.UnderWay.TheVariants.{Follows}
-use Rattle.fiber_body.specs.Context.{Context, comp_in, limit_met, numbering, stepped, with_register}
+use Rattle.fiber_body.specs.Context.{Context, comp_in, limit_met, numbering, stepped, under, with_register}
 use Rattle.fiber_body.specs.Owns.{OwnsFollowing, OwnsParts}
 use Rattle.fiber_body.specs.Phases.{awaits_comp}
 use Rattle.fiber_body.specs.Shown.{IsSameRest, Shown, carry_of, stood}
 use Rattle.fiber_body.specs.Statements.{named}
 use Rattle.fiber_body.specs.Tables.{ends_by, settles}
 use Rattle.fiber_body.specs.Texts.{script_in}
-use Rattle.fiber_body.specs.Triggers.{under}
 use Rattle.fiber_poll.specs.declared.spot.Last.{Last}
 use Rattle.fiber_poll.specs.declared.spot.Spot.{Spot}
 use Rattle.fiber_poll.specs.Moving.{IsBefore, behind_at, unmade, weight, weight_at}

@@ -1,5 +1,5 @@
 -- Calls of the port with a body that is up, and what the port, or the caller, gets back.
-use Rattle.std.proofs.Common.{◌≡◌, ℕ, ◌-◌, ◌<◌, ◌≤◌, true, false, Option, Some, None, List, [], ◌∷◌, ◌++◌, length, slice_get, refl, sym, ap, subst, ◌∙◌, arith}
+use Rattle.std.proofs.Common.{◌≡◌, ℕ, ◌-◌, ◌<◌, ◌≤◌, inl, inr, true, false, Option, Some, None, List, [], ◌∷◌, ◌++◌, length, slice_get, refl, sym, ap, subst, ◌∙◌, arith}
 use Rattle.pic_base.specs.declared.outcome.Outcome.{Outcome}
 use Rattle.pic_machine.specs.declared.birth.Birth.{Birth}
 use Rattle.pic_machine.specs.declared.entry.Call.{Call}
@@ -38,7 +38,7 @@ use Rattle.fiber_body.specs.Laws.{fits_led}
 use Rattle.fiber_body.specs.New.{IsNew}
 use Rattle.fiber_body.specs.Owns.{Owns}
 use Rattle.fiber_body.specs.Phases.{Phase, ending, ends, gone, lives}
-use Rattle.fiber_body.specs.Shown.{IsSameRest, Shown, carry_of, stood}
+use Rattle.fiber_body.specs.Shown.{IsSameRest, MayBeCurrent, Shown, carry_of, stood}
 use Rattle.fiber_body.specs.Texts.{block_in, script_in}
 use Rattle.fiber_poll.specs.declared.spot.Spot.{Spot}
 use Rattle.fiber_poll.specs.Moving.{IsBefore, behind_at, taken}
@@ -46,7 +46,7 @@ use Rattle.fiber_poll.specs.Polls.{IsPortOf}
 use Rattle.fiber_poll.specs.UnderWay.{CanAsk, IsHandedBack, IsOn, IsUp}
 use Rattle.fiber_poll.proofs.Asking.{ends_by_reply, leads_asked}
 use Rattle.fiber_poll.proofs.Births.{current_stands}
-use Rattle.fiber_poll.proofs.Going.{leads_same, on_spared, on_trans, owns_same, same_number}
+use Rattle.fiber_poll.proofs.Going.{leads_same, on_spared, on_trans, owns_same, program_up, same_number}
 use Rattle.fiber_poll.proofs.Moves.{stands_at}
 
 -- ---- calls behind which the turn goes on
@@ -59,26 +59,35 @@ module _ {script : Tree} {port : Sight (Option Tree)} (of : IsPortOf script port
   pub trigger_stands : (trigger : ℕ) → trigger < count_of sort.Trigger script.decls → trigger < length (world port.origin port.front).triggers
   trigger_stands trigger there = let stay = triggers_from port.origin.world port.front in let few = of.triggers in omega (arith, there, stay, few)
 
-  pub names_stand : (call : Call) → CanAsk script call → NamesStand (world port.origin port.front) call
-  names_stand (asked.Peek comp) can = comp_stands comp can
-  names_stand (asked.Complete comp outcome) can = comp_stands comp can
-  names_stand (asked.Look trigger) can = absurd can
-  names_stand (asked.Arm trigger action) can = absurd can
-  names_stand (asked.Signal trigger) can = trigger_stands trigger can
-  names_stand (asked.Attach place comp trigger) can = absurd can
-  names_stand _ can = tt
+  -- a computation that may be current for a body that is up stands
+  pub may_stand : {body : Shown} (comp : ℕ) → IsUp port body → MayBeCurrent (Some script) body.birth comp → comp < length (world port.origin port.front).comps
+  may_stand {body} comp up (inl first) =
+      subst (λ (k : ℕ). k < length (world port.origin port.front).comps) (sym first)
+      (current_stands port.origin port.front (fiber_of (carry_of body)) body.birth up.holds.legal of.main (up.holds.birth up.fiber))
+  may_stand comp up (inr declared) = comp_stands comp declared
+
+  pub current_up : {body : Shown} (comp : ℕ) → IsUp port body → MayBeCurrent body.program body.birth comp → comp < length (world port.origin port.front).comps
+  current_up {body} comp up may = may_stand comp up (subst (λ (p : Option Tree). MayBeCurrent p body.birth comp) (program_up script port body of up) may)
+
+  pub names_stand : {body : Shown} → IsUp port body → (call : Call) → CanAsk script body.birth call → NamesStand (world port.origin port.front) call
+  names_stand up (asked.Peek comp) can = may_stand comp up can
+  names_stand up (asked.Complete comp outcome) can = comp_stands comp can
+  names_stand up (asked.Look trigger) can = absurd can
+  names_stand up (asked.Arm trigger action) can = absurd can
+  names_stand up (asked.Signal trigger) can = trigger_stands trigger can
+  names_stand up (asked.Attach place comp trigger) can = absurd can
+  names_stand up _ can = tt
 
   -- a new body of the program, with the current computation of one that is up, may become a child
-  pub is_child : {body child : Shown} (birth : Birth) → IsUp port body → birth.current ≡ body.birth.current → IsNew child (Some script) birth None → IsChild port (carry_of child) birth.text birth.value
-  is_child {body} {child} birth up same new =
+  pub is_child : {body child : Shown} (birth : Birth) → IsUp port body → MayBeCurrent body.program body.birth birth.current → IsNew child (Some script) birth None → IsChild port (carry_of child) birth.text birth.value
+  is_child {body} {child} birth up may new =
       let n = length (world port.origin port.front).comps in
-      let stands = current_stands port.origin port.front (fiber_of (carry_of body)) body.birth up.holds.legal of.main (up.holds.birth up.fiber) in
       record {
         unnumbered = new.number_is;
         owes = new.owes;
         same_text = ap (λ (b : Birth). b.text) new.birth_is;
         same_value = ap (λ (b : Birth). b.value) new.birth_is;
-        stands = subst (λ (b : Birth). b.current < n) (sym new.birth_is) (subst (λ (k : ℕ). k < n) (sym same) stands);
+        stands = subst (λ (b : Birth). b.current < n) (sym new.birth_is) (current_up birth.current up may);
         share = new.program_is ∙ sym of.share;
       }
 

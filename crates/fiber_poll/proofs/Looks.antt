@@ -20,13 +20,13 @@ use Rattle.fiber_body.specs.declared.standing.Exit.TheVariants.{Next, Raised}
 use Rattle.fiber_body.specs.declared.standing.Standing.{Standing}
 use Rattle.fiber_body.specs.declared.standing.Standing.TheVariants.{Within}
 use Rattle.fiber_body.specs.declared.under_way.UnderWay.TheVariants.{Attaches}
-use Rattle.fiber_body.specs.Context.{Context, comp_in, numbering, stepped, taken_already, with_register}
+use Rattle.fiber_body.specs.Context.{Context, comp_in, numbering, stepped, taken_already, under, with_register}
 use Rattle.fiber_body.specs.Owns.{IsDeclared, OwnsAttachment, OwnsParts}
 use Rattle.fiber_body.specs.Phases.{Attaching, Awaiting, Phase, answers, attaches_to, awaits_trigger, looking, looks, places, placing, suspending}
 use Rattle.fiber_body.specs.Shown.{IsSameRest, Shown, carry_of, stood}
 use Rattle.fiber_body.specs.Statements.{begins, named}
 use Rattle.fiber_body.specs.Texts.{script_in}
-use Rattle.fiber_body.specs.Triggers.{attaching_leads, awaiting_leads, phase_of, under}
+use Rattle.fiber_body.specs.Triggers.{attaching_leads, awaiting_leads, phase_of}
 use Rattle.fiber_poll.specs.declared.spot.Spot.{Spot}
 use Rattle.fiber_poll.specs.Moving.{IsBefore, behind_at, first_of_wait, seen_by_wait}
 use Rattle.fiber_poll.specs.UnderWay.{IsOn, IsUp}

@@ -1,5 +1,5 @@
 -- Statements that come to their end at once, and rounds of a loop: what each makes of where a body stands.
-use Rattle.std.proofs.Common.{◌≡◌, ℕ, ◌+◌, ◌-◌, ◌^◌, ◌<◌, ◌≤◌, nat_lt, true, Option, Some, None, List, [], ◌∷◌, ◌++◌, length, map, slice_get, refl, sym, ap, subst, ◌∙◌, arith}
+use Rattle.std.proofs.Common.{◌≡◌, ℕ, ◌+◌, ◌-◌, ◌^◌, ◌<◌, ◌≤◌, nat_lt, Bool, true, false, cond, Option, Some, None, List, [], ◌∷◌, ◌++◌, length, map, slice_get, refl, sym, ap, subst, ◌∙◌, arith}
 use Rattle.std.specs.Prelude.{IfSome}
 use Rattle.std.proofs.lemmas.Bool.Decides.{nat_tests}
 use Rattle.std.proofs.lemmas.Option.{slice_get_within}
@@ -19,7 +19,7 @@ use Rattle.fiber_body.specs.Around.{Outer, Turns, around_of, at_stmt, out, outer
 use Rattle.fiber_body.specs.Context.{Context, Setting, block_at, numbering, stepped}
 use Rattle.fiber_body.specs.Fits.{setting_of}
 use Rattle.fiber_body.specs.Framing.{begins_ahead, closes_ahead, end_ahead, ends_ahead, enters_ahead, passes_ahead, rest_ahead}
-use Rattle.fiber_body.specs.Phases.{branches, repeating}
+use Rattle.fiber_body.specs.Phases.{branches, calls, goes_on, repeating}
 use Rattle.fiber_body.specs.Places.{at_place, past_end}
 use Rattle.fiber_body.specs.Shown.{IsChanged, IsPopped, Shown, carry_of, stood}
 use Rattle.fiber_body.specs.Statements.{Effect, begins, or_first, result}
@@ -126,6 +126,20 @@ not_chosen a left right test then other none = record {
   costs = tt;
   row = λ numbers n. ap (λ (block : Option ℕ). settles (record a.context { steps = n }) (branches block)) none;
 }
+
+-- a check of a fiber that isn't told
+not_told : (a : Shown) → a.context.permitted ≡ false → EndsAtOnce a a stmt.Check Next
+not_told a untold = record {
+  registers = a.context.registers;
+  cells = a.context.cells;
+  is = refl;
+  costs = tt;
+  row = λ numbers n. let c : Context = record a.context { steps = n } in ap (λ (told : Bool). settles c (cond told (calls stmt.Check) (goes_on c))) untold;
+}
+
+pub untold_at_once : (a b : Shown) (one : Stmt) → b ≡ a → (one ≡ stmt.Check) × (b.context.permitted ≡ false) → EndsAtOnce a b one Next
+untold_at_once a b one same untold =
+    subst (λ (z : Shown). EndsAtOnce a z one Next) (sym same) (subst (λ (s : Stmt). EndsAtOnce a a s Next) (sym untold.0) (not_told a (subst (λ (z : Shown). z.context.permitted ≡ false) same untold.1)))
 
 -- ---- rounds
 

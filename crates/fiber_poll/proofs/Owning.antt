@@ -1,5 +1,5 @@
 -- What a body that stands within a statement may call: it names what stands, and its place is its own.
-use Rattle.std.proofs.Common.{◌≡◌, ℕ, ◌<◌, ◌≤◌, inl, Option, Some, None, [], length, refl, sym, ap, subst, arith}
+use Rattle.std.proofs.Common.{◌≡◌, ℕ, ◌<◌, ◌≤◌, inl, Option, Some, None, [], length, refl, ap, subst, arith}
 use Rattle.std.specs.Prelude.{unwrap_or}
 use Rattle.std.specs.Option.{IfSome}
 use Rattle.pic_base.specs.declared.action.Action.TheVariants.{Resume}
@@ -21,15 +21,14 @@ use Rattle.fiber_body.specs.declared.under_way.UnderWay.TheVariants.{Places, Awa
 use Rattle.fiber_body.specs.Context.{count_of}
 use Rattle.script_tree.specs.declared.thing.Sort.TheVariants as sort
 use Rattle.fiber_body.specs.Owns.{IsDeclared, OwnsPlace, OwnsWait}
-use Rattle.fiber_body.specs.Shown.{Shown, carry_of}
+use Rattle.fiber_body.specs.Shown.{MayBeCurrent, Shown, carry_of}
 use Rattle.fiber_body.specs.Texts.{script_in}
 use Rattle.fiber_poll.specs.declared.spot.Spot.{Spot}
 use Rattle.fiber_poll.specs.declared.spot.Last.TheVariants.{Park}
 use Rattle.fiber_poll.specs.Moving.{arms_at}
 use Rattle.fiber_poll.specs.Polls.{IsPortOf}
 use Rattle.fiber_poll.specs.UnderWay.{IsLast, IsUp}
-use Rattle.fiber_poll.proofs.Births.{current_stands}
-use Rattle.fiber_poll.proofs.Giving.{comp_stands, trigger_stands}
+use Rattle.fiber_poll.proofs.Giving.{comp_stands, trigger_stands, current_up}
 use Rattle.fiber_poll.proofs.Going.{may_make, program_up}
 use Rattle.fiber_poll.proofs.Stages.{within_up}
 
@@ -56,14 +55,12 @@ module _ (tree : Tree) {p : Sight (Option Tree)} {a : Shown} where
       may_make up free (here.1, comp_stands of k comp, trigger_stands of t (declared_here t of up kept.0.trigger)) tt here.0
 
   -- the current computation stands
-  pub current_here : (u : Under) → IsPortOf tree p → IsUp p a → u.current ≡ a.birth.current → u.current < length (world p.origin p.front).comps
-  current_here u of up same =
-      subst (λ (k : ℕ). k < length (world p.origin p.front).comps) (sym same)
-      (current_stands p.origin p.front (fiber_of (carry_of a)) a.birth up.holds.legal of.main (up.holds.birth up.fiber))
+  pub current_here : (u : Under) → IsPortOf tree p → IsUp p a → MayBeCurrent a.program a.birth u.current → u.current < length (world p.origin p.front).comps
+  current_here u of up may = current_up of u.current up may
 
-  pub wait_may : (spot : Spot) (parts : Parts) (u : Under) → IsPortOf tree p → IsUp p a → a.owes ≡ [] → a.standing ≡ Within spot.block spot.place (Awaits parts) → u.current ≡ a.birth.current
+  pub wait_may : (spot : Spot) (parts : Parts) (u : Under) → IsPortOf tree p → IsUp p a → a.owes ≡ [] → a.standing ≡ Within spot.block spot.place (Awaits parts) → MayBeCurrent a.program a.birth u.current
       → IfSome parts.place (λ place. parts.at ≡ 2 → MayMake p.origin p.front (fiber_of (carry_of a)) (asked.Attach place u.current (trigger_of parts)))
-  wait_may spot parts u of up free at same = by_place parts.place refl where
+  wait_may spot parts u of up free at may = by_place parts.place refl where
     kept : OwnsWait (script_in a.program) (fiber_of (carry_of a)) (own (log p.front (fiber_of (carry_of a)))) parts
     kept = (within_up spot (Awaits parts) up at).1
 
@@ -72,10 +69,10 @@ module _ (tree : Tree) {p : Sight (Option Tree)} {a : Shown} where
     by_place (Some place) is = λ two.
         let owns = subst (λ (o : Option ℕ). IfSome o (OwnsPlace (fiber_of (carry_of a)) (own (log p.front (fiber_of (carry_of a)))))) is (kept.place two) in
         let here = own_place place u.current (trigger_of parts) up owns in
-        may_make up free (here.1, current_here u of up same, trigger_stands of (trigger_of parts) (declared_here (trigger_of parts) of up kept.trigger)) tt here.0
+        may_make up free (here.1, current_up of u.current up may, trigger_stands of (trigger_of parts) (declared_here (trigger_of parts) of up kept.trigger)) tt here.0
 
-  pub wake_may : (u : Under) → IsPortOf tree p → IsUp p a → a.owes ≡ [] → u.current ≡ a.birth.current → MayMake p.origin p.front (fiber_of (carry_of a)) (asked.Peek u.current)
-  wake_may u of up free same = may_make up free (current_here u of up same) tt tt
+  pub wake_may : (u : Under) → IsPortOf tree p → IsUp p a → a.owes ≡ [] → MayBeCurrent a.program a.birth u.current → MayMake p.origin p.front (fiber_of (carry_of a)) (asked.Peek u.current)
+  wake_may u of up free may = may_make up free (current_up of u.current up may) tt tt
 
   -- a trigger for which it waits may be armed
   declared_may : (spot : Spot) (parts : Parts) (t : ℕ) → IsPortOf tree p → IsUp p a → a.owes ≡ [] → a.standing ≡ Within spot.block spot.place (Awaits parts) → parts.trigger ≡ Some t

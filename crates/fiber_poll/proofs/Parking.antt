@@ -25,14 +25,14 @@ use Rattle.fiber_body.specs.declared.standing.Standing.{Standing}
 use Rattle.fiber_body.specs.declared.standing.Standing.TheVariants.{Within}
 use Rattle.fiber_body.specs.declared.under_way.UnderWay.{UnderWay}
 use Rattle.fiber_body.specs.declared.under_way.UnderWay.TheVariants.{Places, Awaits, Awake, Attaches, Follows}
-use Rattle.fiber_body.specs.Context.{Context, taken_already}
+use Rattle.fiber_body.specs.Context.{Context, taken_already, under}
 use Rattle.fiber_body.specs.Fits.{LeadsTo, setting_of}
 use Rattle.fiber_body.specs.Owns.{IsDeclared, OwnsParts}
 use Rattle.fiber_body.specs.Phases.{Phase, awaits_comp, awaits_trigger, suspending}
 use Rattle.fiber_body.specs.Shown.{IsSameRest, Shown, carry_of, stood}
 use Rattle.fiber_body.specs.Tables.{asks, ends_by, leads, settles}
 use Rattle.fiber_body.specs.Texts.{script_in}
-use Rattle.fiber_body.specs.Triggers.{phase_of, under}
+use Rattle.fiber_body.specs.Triggers.{phase_of}
 use Rattle.fiber_poll.specs.declared.spot.Spot.{Spot}
 use Rattle.fiber_poll.specs.declared.spot.Last.TheVariants.{Park}
 use Rattle.fiber_poll.specs.Moving.{arms_at, behind_arming, behind_at, weight, weight_at, weight_of}

@@ -25,13 +25,13 @@ use Rattle.fiber_body.specs.declared.standing.Standing.{Standing}
 use Rattle.fiber_body.specs.declared.standing.Standing.TheVariants.{Within}
 use Rattle.fiber_body.specs.declared.under_way.UnderWay.{UnderWay}
 use Rattle.fiber_body.specs.declared.under_way.UnderWay.TheVariants.{Places, Awaits, Awake, Attaches}
-use Rattle.fiber_body.specs.Context.{Context, limit_met, with_register}
+use Rattle.fiber_body.specs.Context.{Context, limit_met, under, with_register}
 use Rattle.fiber_body.specs.Owns.{OwnsAttachment, OwnsParts, OwnsPlace}
 use Rattle.fiber_body.specs.Phases.{Attaching, Awaiting, Phase, answers, attaches, attaches_to, awaits_trigger, finds_no_place, placing, places, suspending, unplaced}
 use Rattle.fiber_body.specs.Shown.{IsSameRest, Shown, carry_of, stood}
 use Rattle.fiber_body.specs.Tables.{ends_by, settles}
 use Rattle.fiber_body.specs.Texts.{script_in}
-use Rattle.fiber_body.specs.Triggers.{attached_number, attaching_leads, awaiting_leads, phase_of, trigger_in, under}
+use Rattle.fiber_body.specs.Triggers.{attached_number, attaching_leads, awaiting_leads, phase_of, trigger_in}
 use Rattle.fiber_poll.specs.declared.spot.Spot.{Spot}
 use Rattle.fiber_poll.specs.Moving.{behind_at, exit_of, placed, placed_for_attachment, placed_for_wait}
 use Rattle.fiber_poll.specs.UnderWay.{IsOn, IsUp}

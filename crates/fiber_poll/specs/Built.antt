@@ -8,7 +8,7 @@ use Rattle.script_tree.specs.declared.program.Decl.{Decl}
 use Rattle.script_tree.specs.declared.program.Kind.{Kind}
 use Rattle.script_tree.specs.declared.program.Kind.TheVariants.{Trigger, Comp}
 use Rattle.script_tree.specs.declared.program.Stmt.{Stmt}
-use Rattle.script_tree.specs.declared.program.Stmt.TheVariants.{Set, Add, Sub, Mul, Put, Get, Say, Raise, Break, Return, Cancel, Peek, Signal, Detach, Spawn, Yield, If, Loop, Try, Await, Attach, Wait}
+use Rattle.script_tree.specs.declared.program.Stmt.TheVariants.{Set, Add, Sub, Mul, Put, Get, Say, Raise, Break, Return, Cancel, Peek, Signal, Detach, Spawn, Yield, If, Loop, Try, Await, Attach, Wait, Check, Forbid, Permit, Under}
 use Rattle.script_tree.specs.Tree.{Tree}
 
 abbrev pub is_built_kind : Kind → Bool
@@ -42,9 +42,13 @@ is_built_stmt (Detach c t) = is_built_comp c
 is_built_stmt (Wait r c) = is_built_comp c
 is_built_stmt (Spawn text v) = true
 is_built_stmt Yield = true
+is_built_stmt Check = true
 is_built_stmt (If a t b p q) = true
 is_built_stmt (Loop p) = true
 is_built_stmt (Try p r h) = true
+is_built_stmt (Forbid p) = true
+is_built_stmt (Permit p) = true
+is_built_stmt (Under c p) = is_built_comp c
 is_built_stmt _ = false
 
 -- the statements of every block

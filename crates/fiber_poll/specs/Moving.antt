@@ -5,6 +5,7 @@ use Rattle.pic_machine.specs.declared.entry.Reply.TheVariants.{Made, Full}
 use Rattle.pic_machine.specs.declared.state.TrigState.{TrigState}
 use Rattle.pic_machine.specs.declared.waits.Parts.{Parts}
 use Rattle.pic_machine.specs.declared.state.TrigState.TheVariants.{Initial, Awaiting, Signalled}
+use Rattle.pic_machine.specs.declared.waits.Standing.{Standing as Under}
 use Rattle.fiber_await.specs.declared.ahead.Ahead.{Ahead}
 use Rattle.fiber_await.specs.declared.ahead.Ahead.TheVariants.{Go, Cancelled}
 use Rattle.script_tree.specs.declared.program.Operand.{Operand}
@@ -15,13 +16,13 @@ use Rattle.script_tree.specs.Tree.{Tree}
 use Rattle.fiber_body.specs.declared.standing.Exit.{Exit}
 use Rattle.fiber_body.specs.declared.standing.Exit.TheVariants.{Next, Raised, Broke, Spent}
 use Rattle.fiber_body.specs.declared.standing.Frame.{Frame}
-use Rattle.fiber_body.specs.declared.standing.Frame.TheVariants.{Rest, Repeats, Catches}
+use Rattle.fiber_body.specs.declared.standing.Frame.TheVariants.{Rest, Repeats, Catches, Restores}
 use Rattle.fiber_body.specs.declared.standing.Standing.{Standing}
 use Rattle.fiber_body.specs.declared.standing.Standing.TheVariants.{At, Within, Out, Ended}
 use Rattle.fiber_body.specs.declared.under_way.UnderWay.{UnderWay}
 use Rattle.fiber_body.specs.declared.under_way.UnderWay.TheVariants.{Places, Awaits, Awake, Attaches, Follows}
 use Rattle.fiber_body.specs.Around.{Turns, around_of, place_of}
-use Rattle.fiber_body.specs.Context.{Context, Numbering, block_at, holds, limit_met, taken_already, value, with_register}
+use Rattle.fiber_body.specs.Context.{Context, Numbering, block_at, holds, limit_met, standing_under, taken_already, under, value, with_register}
 use Rattle.fiber_body.specs.Fits.{setting_of}
 use Rattle.fiber_body.specs.Phases.{Phase, calls, ended}
 use Rattle.fiber_body.specs.Shown.{Shown, carry_of, stood}
@@ -116,10 +117,16 @@ abbrev pub IsNoTest : Stmt → Type 0
 IsNoTest (stmt.If left test right then other) = ⊥
 IsNoTest _ = ⊤
 
--- the statement has a call, or the block of a loop or of a handler
+-- a check that doesn't come to its end at once is one of a fiber that is permitted to be told
+abbrev pub IsTold : Bool → Stmt → Type 0
+IsTold permitted stmt.Check = permitted ≡ true
+IsTold permitted _ = ⊤
+
+-- the statement has a call, or a block that isn't a test's
 pub record IsWaiting (c : Context) (one : Stmt) : Type 0 where
   pub not_done : result c.registers c.cells one ≡ None
   pub no_test : IsNoTest one
+  pub told : IsTold c.permitted one
 
 -- the statement has a call, or several
 abbrev pub HasCall : Context → Stmt → Type 0
@@ -153,6 +160,11 @@ abbrev pub entered : Shown → Spot → List Frame → ℕ → Shown
 entered body spot exits block =
     stood (record body { frames = exits ++ Rest spot.block (spot.place + 1) ∷ body.frames }) (At block 0) (body.context.steps - 1)
 
+-- the same, where the block is run under this, and the exit restores what was
+abbrev pub entered_under : Shown → Spot → Under → ℕ → Shown
+entered_under body spot u block =
+    let inner = entered body spot (Restores (under body.context) ∷ []) block in record inner { context = standing_under u inner.context }
+
 -- the body in a block that a test chose: where no statement stands behind the test, no frame is needed
 abbrev pub branched : Shown → Spot → ℕ → Bool → Shown
 branched body spot block true = stood body (At block 0) (body.context.steps - 1)
@@ -170,6 +182,7 @@ passed body (Repeats block) Next = stood body (Out Spent) body.context.steps
 passed body (Repeats block) Broke = stood body (Out Next) body.context.steps
 passed body (Catches register handler) (Raised code) =
     stood (record body { context = with_register body.context register code }) (At handler 0) body.context.steps
+passed body (Restores u) exit = stood (record body { context = standing_under u body.context }) (Out exit) body.context.steps
 passed body frame exit = stood body (Out exit) body.context.steps
 
 -- ---- statements that look at a trigger first

@@ -1,5 +1,6 @@
 -- What stands while a turn of a script's fiber is under way. Only private contracts cite these words.
 use Rattle.std.specs.Prelude.{◌≡◌, ◌≢◌, ℕ, ◌+◌, ◌-◌, ◌≤◌, ◌<◌, length, IsTrue, Result, Ok, Err, Option, Some, None, List, [], ◌∷◌, ⊤}
+use Rattle.pic_machine.specs.declared.birth.Birth.{Birth}
 use Rattle.pic_machine.specs.declared.entry.Call.{Call}
 use Rattle.pic_machine.specs.declared.entry.Call.TheVariants as call
 use Rattle.pic_machine.specs.declared.entry.Reply.{Reply}
@@ -26,14 +27,13 @@ use Rattle.fiber_await.specs.declared.ahead.CompAhead.{CompAhead}
 use Rattle.fiber_await.specs.declared.ahead.CompAhead.TheVariants as ahead
 use Rattle.pic_base.specs.declared.outcome.Outcome.TheVariants.{Returned, Cancelled}
 use Rattle.fiber_body.specs.declared.standing.Exit.TheVariants.{Next, Raised}
-use Rattle.fiber_body.specs.Context.{Context, count_of, limit_met, with_register}
+use Rattle.fiber_body.specs.Context.{Context, count_of, limit_met, with_register, under}
 use Rattle.fiber_body.specs.Fits.{LeadsTo}
 use Rattle.fiber_body.specs.Owns.{Owns}
 use Rattle.fiber_body.specs.Segments.{happens}
-use Rattle.fiber_body.specs.Shown.{IsSameRest, Shown, carry_of, stood}
+use Rattle.fiber_body.specs.Shown.{IsSameRest, Shown, carry_of, stood, MayBeCurrent}
 use Rattle.fiber_body.specs.Statements.{born}
 use Rattle.fiber_body.specs.Texts.{script_in}
-use Rattle.fiber_body.specs.Triggers.{under}
 use Rattle.fiber_poll.specs.declared.spot.Last.{Last}
 use Rattle.fiber_poll.specs.declared.spot.Spot.{Spot}
 use Rattle.fiber_poll.specs.declared.spot.Last.TheVariants.{Yield, Park, End}
@@ -98,14 +98,14 @@ pub record CanRun (script : Tree) (one : Stmt) : Type 0 where
   pub fits : StmtFits script holder one
   pub built : IsTrue (is_built_stmt one)
 
--- a call that a statement of the script may ask for, and behind which its turn goes on
-abbrev pub CanAsk : Tree → Call → Type 0
-CanAsk script (call.Say v) = ⊤
-CanAsk script (call.Peek comp) = comp ≤ count_of sort.Comp script.decls
-CanAsk script (call.Complete comp outcome) = comp ≤ count_of sort.Comp script.decls
-CanAsk script (call.Signal trigger) = trigger < count_of sort.Trigger script.decls
-CanAsk script (call.Fork text v) = IsFiberText script text
-CanAsk script _ = ⊥
+-- a call that a statement of the script may ask for, of a fiber with this birth, and behind which its turn goes on
+abbrev pub CanAsk : Tree → Birth → Call → Type 0
+CanAsk script birth (call.Say v) = ⊤
+CanAsk script birth (call.Peek comp) = MayBeCurrent (Some script) birth comp
+CanAsk script birth (call.Complete comp outcome) = comp ≤ count_of sort.Comp script.decls
+CanAsk script birth (call.Signal trigger) = trigger < count_of sort.Trigger script.decls
+CanAsk script birth (call.Fork text v) = IsFiberText script text
+CanAsk script birth _ = ⊥
 
 -- the entry of the call was made, with the reply, and the ready line got what it made ready; the body stands where it
 -- stood

@@ -1,6 +1,7 @@
 -- How often a fiber of a script may yield: each time by a statement, for which it has a step.
 use Rattle.std.proofs.Common.{◌≡◌, ◌≢◌, ℕ, ◌+◌, ◌-◌, ◌≤◌, nat_lt, Bool, true, false, cond, slice_get, Option, Some, None, List, ◌∷◌, refl, sym, ap, subst, arith}
 use Rattle.pic_base.specs.Steps.{most_steps}
+use Rattle.pic_base.specs.declared.outcome.Outcome.TheVariants.{Cancelled}
 use Rattle.pic_machine.specs.declared.entry.Call.{Call}
 use Rattle.pic_machine.specs.declared.entry.Call.TheVariants.{End, Yield}
 use Rattle.pic_machine.specs.declared.entry.Reply.{Reply}
@@ -20,17 +21,17 @@ use Rattle.script_tree.specs.declared.program.Stmt.TheVariants as stmt
 use Rattle.fiber_body.specs.declared.standing.Exit.{Exit}
 use Rattle.fiber_body.specs.declared.standing.Exit.TheVariants.{Next, Raised, Spent}
 use Rattle.fiber_body.specs.Around.{around_of, place_of}
-use Rattle.fiber_body.specs.Context.{Context, Numbering, Setting, comp_in, numbering}
+use Rattle.fiber_body.specs.Context.{Context, Numbering, Setting, comp_in, numbering, under}
 use Rattle.fiber_body.specs.Fits.{Fits, MayBeOf, setting_of}
 use Rattle.fiber_body.specs.Follows.{context_of}
 use Rattle.fiber_body.specs.Framing.{leads_segment}
-use Rattle.fiber_body.specs.Phases.{Attaching, Awaiting, Phase, answers, attaches, attaches_to, awaits_comp, awaits_trigger, branches, calls, catching, ended, ending, ends, finds_no_place, gone, lives, looking, looks, places, placing, repeating, suspending, tries, unplaced}
+use Rattle.fiber_body.specs.Phases.{Attaching, Awaiting, Phase, answers, attaches, attaches_to, awaits_comp, awaits_trigger, branches, calls, catching, ended, ending, ends, finds_no_place, gone, lives, looking, looks, places, placing, repeating, suspending, tries, unplaced, runs_under, goes_on}
 use Rattle.fiber_body.specs.Segments.{Acts, CanBegin, Extent, Runs, and_more, and_out, begun, ends_so, goes, happens, leaves_it, makes, stops_inside}
 use Rattle.fiber_body.specs.Shown.{Shown}
 use Rattle.fiber_body.specs.Statements.{begins, born, named, replied}
-use Rattle.fiber_body.specs.Tables.{Settled, Work, asks, catches, closing, encloses, ends_by, ends_text, goes_into, leads, repeats, settles}
+use Rattle.fiber_body.specs.Tables.{Settled, Work, asks, catches, closing, encloses, ends_by, ends_text, goes_into, leads, repeats, restores, settles}
 use Rattle.fiber_body.specs.Texts.{block_in}
-use Rattle.fiber_body.specs.Triggers.{attaching_asks, attaching_leads, awaiting_asks, awaiting_leads, under}
+use Rattle.fiber_body.specs.Triggers.{attaching_asks, attaching_leads, awaiting_asks, awaiting_leads}
 
 -- ---- the steps that are left
 
@@ -57,12 +58,18 @@ named_small : (c : Context) (number : Option ℕ) (one : Stmt) (phase : ℕ → 
 named_small c None one phase small = (omega arith, omega arith)
 named_small c (Some n) one phase small = small n
 
+check_small : (permitted : Bool) (c : Context) → IsSmall c (cond permitted (calls stmt.Check) (goes_on c))
+check_small true c = (omega arith, omega arith)
+check_small false c = (omega arith, omega arith)
+
 begins_small : (numbers : Numbering) (c : Context) (one : Stmt) → IsSmall c (begins numbers c one)
 begins_small numbers c (stmt.Await t) = named_small c (slice_get numbers.triggers t) (stmt.Await t) (λ n. awaits_trigger n looking) (λ n. (omega arith, omega arith))
 begins_small numbers c (stmt.Attach r comp t) =
     named_small c (comp_in numbers.comps comp) (stmt.Attach r comp t) (λ k. named (slice_get numbers.triggers t) (stmt.Attach r comp t) (λ n. attaches_to r k n looks))
     (λ k. named_small c (slice_get numbers.triggers t) (stmt.Attach r comp t) (λ n. attaches_to r k n looks) (λ n. (omega arith, omega arith)))
 begins_small numbers c (stmt.Wait r comp) = named_small c (comp_in numbers.comps comp) (stmt.Wait r comp) (λ k. awaits_comp r k peeking) (λ k. (omega arith, omega arith))
+begins_small numbers c (stmt.Under comp block) = named_small c (comp_in numbers.comps comp) (stmt.Under comp block) (λ k. runs_under (record (under c) { current = k }) block) (λ k. (omega arith, omega arith))
+begins_small numbers c stmt.Check = check_small c.permitted c
 begins_small numbers c _ = (omega arith, omega arith)
 
 begins_once : (numbers : Numbering) (c : Context) (one : Stmt) → CanBegin one c → allowance (begins numbers (begun one c) one) + (begun one c).steps ≤ c.steps
@@ -73,6 +80,7 @@ replied_within : (c : Context) (one : Stmt) (reply : Reply) → (allowance (repl
 replied_within c (stmt.Return r comp v) (Completed how) = omega arith
 replied_within c (stmt.Cancel r comp v) (Completed how) = omega arith
 replied_within c (stmt.Peek r q comp) (Peeked seen) = omega arith
+replied_within c stmt.Check (Peeked (Some (Cancelled code))) = omega arith
 replied_within c (stmt.Spawn text v) Full = omega arith
 replied_within c _ _ = omega arith
 
@@ -131,6 +139,7 @@ rows_within c (repeating block exit) = omega arith
 rows_within c (tries block register handler) = omega arith
 rows_within c (catching register handler (Raised code)) = omega arith
 rows_within c (catching register handler exit) = omega arith
+rows_within c (runs_under u block) = omega arith
 rows_within c (lives block) = omega arith
 rows_within c (ending outcome gone) = omega arith
 rows_within c (ended exit d) = omega arith
@@ -142,6 +151,7 @@ row_within c p z row = subst (IsWithin (steps_in p c)) row (rows_within c p)
 closing_within : (k : Work) (x : Exit) (c : Context) → (allowance (closing k x c) ≡ 0) × (steps_in (closing k x c) c ≡ c.steps)
 closing_within (repeats block) x c = (refl, refl)
 closing_within (catches register handler) x c = (refl, refl)
+closing_within (restores u) x c = (refl, refl)
 closing_within ends_text x c = (refl, refl)
 
 -- ---- segments

@@ -1,13 +1,14 @@
 //! Blocks: entering them, and what is to be done where one has ended.
 ghost use Rattle.std.specs.Prelude.{◌≡◌, ◌<◌, ◌+◌, ◌^◌, slice_get, OnErr, OnOk};
 ghost use Rattle.std.specs.Option.{IfSome, option_to_list};
-ghost use Rattle.fiber_body.specs.Shown.{IsFrame};
+ghost use Rattle.fiber_body.specs.Shown.{IsFrame, MayBeCurrent};
 ghost use Rattle.fiber_body.specs.Tables.{outcome_of};
-ghost use Rattle.fiber_poll.specs.Moving.{Goes, branched, entered, passed, round_of, weight};
+ghost use Rattle.fiber_poll.specs.Moving.{Goes, branched, entered, entered_under, passed, round_of, weight};
 
 use crate::spot::Spot;
 use fiber_body::{Body, Exit, Frame, Standing};
 use pic_base::{Memory, Outcome, Value};
+use pic_machine::Standing as Under;
 
 /// The code with which a fiber is cancelled that has no step left.
 const NO_STEP: Value = 1;
@@ -23,7 +24,7 @@ pub(crate) fn enter(
 ) -> Result<(), Memory>
     requires steps { 0 < body.old.context.steps }
     requires within { spot.place + 1 < 2 ^ 32 }
-    requires frame { IfSome exit IsFrame }
+    requires frame { IfSome exit (IsFrame body.old.program body.old.birth) }
     ensures entered { OnOk result (body.new ≡ entered body.old spot (option_to_list exit) block) }
     ensures kept { OnErr result (body.new ≡ body.old) }
 {
@@ -53,6 +54,25 @@ pub(crate) fn take_branch(body: &mut Body, spot: Spot, block: u32, last: bool) -
         return enter(body, spot, None, block);
     }
     body.stand(Standing::At { block, place: 0 }, body.steps() - 1);
+    Ok(())
+}
+
+/// The same, where the block is run under this, and its exit restores what was.
+pub(crate) fn enter_under(
+    body: &mut Body,
+    spot: Spot,
+    under: Under,
+    block: u32,
+) -> Result<(), Memory>
+    requires steps { 0 < body.old.context.steps }
+    requires within { spot.place + 1 < 2 ^ 32 }
+    requires may { MayBeCurrent body.old.program body.old.birth under.current }
+    ensures entered { OnOk result (body.new ≡ entered_under body.old spot under block) }
+    ensures kept { OnErr result (body.new ≡ body.old) }
+{
+    let before = body.waits_under();
+    enter(body, spot, Some(Frame::Restores(before)), block)?;
+    body.stand_under(under);
     Ok(())
 }
 
@@ -101,7 +121,7 @@ fn outcome_of(body: &Body, exit: Exit) -> Outcome
 /// Lets the body stand behind a frame that was taken away, where what was in it has ended so: a loop doesn't
 /// go round any more.
 fn pass(body: &mut Body, frame: Frame, exit: Exit)
-    requires { IsFrame frame }
+    requires { IsFrame body.old.program body.old.birth frame }
     ensures { body.new ≡ passed body.old frame exit }
 {
     let standing = match (frame, exit) {
@@ -114,6 +134,10 @@ fn pass(body: &mut Body, frame: Frame, exit: Exit)
                 block: handler,
                 place: 0,
             }
+        }
+        (Frame::Restores(under), exit) => {
+            body.stand_under(under);
+            Standing::Out(exit)
         }
         (_, exit) => Standing::Out(exit),
     };

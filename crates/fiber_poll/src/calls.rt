@@ -3,6 +3,7 @@ ghost use Rattle.std.specs.Prelude.{◌≡◌, ◌<◌, ◌+◌, ◌^◌, ℕ};
 ghost use Rattle.script_tree.specs.Tree.{Tree};
 ghost use Rattle.script_tree.specs.WellFormed.{StmtFits};
 ghost use Rattle.fiber_body.specs.Context.{stepped};
+ghost use Rattle.fiber_body.specs.Shown.{MayBeCurrent};
 ghost use Rattle.fiber_body.specs.Statements.{call_of, replied};
 ghost use Rattle.fiber_poll.specs.Moving.{taken};
 
@@ -19,7 +20,9 @@ pub(crate) const LIMIT_MET: Value = 3;
 /// The call that the statement asks for, if it asks for one.
 pub(crate) fn call_of(numbers: &Numbers, body: &Body, stmt: &Stmt) -> Option<Call>
     requires { (tree : Tree) × (holder : ℕ) × StmtFits tree holder stmt.now }
-    ensures { result ≡ call_of numbers.now (stepped body.now.context) stmt.now }
+    ensures is { result ≡ call_of numbers.now (stepped body.now.context) stmt.now }
+    // A check peeks at what may be current.
+    ensures may { stmt.now ≡ Stmt.Check → MayBeCurrent body.now.program body.now.birth body.now.context.current }
 {
     match stmt {
         Stmt::Say(operand) => Some(Call::Say(body.value(*operand))),
@@ -35,6 +38,7 @@ pub(crate) fn call_of(numbers: &Numbers, body: &Body, stmt: &Stmt) -> Option<Cal
             Some(Call::Complete { comp, outcome })
         }
         Stmt::Peek(_, _, comp) => Some(Call::Peek(numbers.comp(*comp)?)),
+        Stmt::Check => Some(Call::Peek(body.current())),
         Stmt::Signal(trigger) | Stmt::Detach(_, trigger) => {
             Some(Call::Signal(numbers.trigger(*trigger)?))
         }
@@ -64,6 +68,11 @@ pub(crate) fn take(body: &mut Body, spot: Spot, stmt: &Stmt, reply: Reply)
             if let Reply::Peeked(seen) = reply {
                 body.set_register(*state, state_number(seen));
                 body.set_register(*value, outcome_number(seen));
+            }
+        }
+        Stmt::Check => {
+            if let Reply::Peeked(Some(Outcome::Cancelled(code))) = reply {
+                exit = Exit::Raised(code);
             }
         }
         Stmt::Spawn(..) => {

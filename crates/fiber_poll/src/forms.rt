@@ -50,6 +50,8 @@ fn is_built_stmt(stmt: &Stmt) -> bool
         Stmt::Put(..) | Stmt::Get(..) | Stmt::Say(_) | Stmt::Spawn(..) | Stmt::Yield => true,
         Stmt::Signal(_) | Stmt::Await(_) => true,
         Stmt::Raise(_) | Stmt::Break | Stmt::If { .. } | Stmt::Loop(_) | Stmt::Try { .. } => true,
+        Stmt::Check | Stmt::Forbid(_) | Stmt::Permit(_) => true,
+        Stmt::Under(comp, _) => is_built_comp(*comp),
         Stmt::Return(_, comp, _) | Stmt::Cancel(_, comp, _) | Stmt::Peek(_, _, comp) => {
             is_built_comp(*comp)
         }

@@ -20,6 +20,7 @@ mod silent;
 mod spot;
 mod stmts;
 mod turn;
+mod under;
 mod values;
 mod within;
 

@@ -24,7 +24,7 @@ pub(crate) fn make<P: Port<Body = Body>, R: ReadyLine>(
     requires up { IsUp (P.sight port.old) body.old }
     requires free { body.old.owes ≡ [] }
     requires room { 0 < body.old.room }
-    requires can { CanAsk poller.now call }
+    requires can { CanAsk poller.now body.old.birth call }
     ensures made { IfOk result (λ reply. IsMade (P.sight port.old) (P.sight port.new) body.old body.new (R.told line.old) (R.told line.new) call reply) }
     ensures refused { OnErr result (IsOn (P.sight port.old) (P.sight port.new) body.old body.new (R.told line.old) (R.told line.new)) }
     ensures gave_up { IfErr result (λ fault. Faulted fault (P.sight port.old) (P.sight port.new)) }

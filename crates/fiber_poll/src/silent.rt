@@ -1,11 +1,12 @@
 //! Statements that come to their end without a call, through the blocks that tests choose and around loops.
-ghost use Rattle.std.specs.Prelude.{◌≡◌, ◌≤◌, ◌<◌, ℕ, None, Some, Ok, IfOk, IfSome, length, slice_get};
+ghost use Rattle.std.specs.Prelude.{◌≡◌, ◌≤◌, ◌<◌, ℕ, None, Some, Ok, IfOk, IfSome, false, length, slice_get};
+ghost use Rattle.std.specs.Bool.{OnFalse, OnTrue};
 ghost use Rattle.script_tree.specs.Tree.{Tree};
 ghost use Rattle.script_tree.specs.WellFormed.{IsValue, StmtFits};
 ghost use Rattle.fiber_body.specs.Context.{block_at};
 ghost use Rattle.fiber_body.specs.Shown.{stood};
 ghost use Rattle.fiber_body.specs.Texts.{EachFits, script_in};
-ghost use Rattle.fiber_poll.specs.Moving.{Goes, IsAtOnce, IsLeft, WentOn, chosen, weight};
+ghost use Rattle.fiber_poll.specs.Moving.{Goes, IsAtOnce, IsLeft, IsTold, WentOn, chosen, weight};
 
 use crate::blocks::take_branch;
 use crate::spot::{AtOnce, Spot};
@@ -88,7 +89,7 @@ fn go_on(body: &mut Body, spot: Spot, steps: u32) -> Option<(Spot, u32)>
             Some((Spot { block, place }, steps))
         }
         Frame::Repeats { block } => Some((Spot { block, place: 0 }, steps - 1)),
-        Frame::Catches { .. } => None,
+        Frame::Catches { .. } | Frame::Restores(_) => None,
     }
 }
 
@@ -134,11 +135,26 @@ fn at_once(body: &mut Body, stmt: &Stmt) -> AtOnce
         other,
     } = stmt
     else {
-        return AtOnce::Waits;
+        return if is_untold_check(body, stmt) {
+            AtOnce::Ends(Exit::Next)
+        } else {
+            AtOnce::Waits
+        };
     };
     match choose(body, *left, *test, *right, *then, *other) {
         Some(block) => AtOnce::Chooses(block),
         None => AtOnce::Ends(Exit::Next),
+    }
+}
+
+/// Whether the statement is a check of a fiber that isn't told of a cancellation.
+fn is_untold_check(body: &Body, stmt: &Stmt) -> bool
+    ensures untold { OnTrue result ((stmt.now ≡ Stmt.Check) × (body.now.context.permitted ≡ false)) }
+    ensures told { OnFalse result (IsTold body.now.context.permitted stmt.now) }
+{
+    match stmt {
+        Stmt::Check => !body.waits_under().permitted,
+        _ => false,
     }
 }
 

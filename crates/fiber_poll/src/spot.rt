@@ -66,6 +66,6 @@ pub(crate) enum AtOnce {
     Ends(Exit),
     /// It is a test, and chose this block.
     Chooses(u32),
-    /// Nothing: it has a call, or the block of a loop or of a handler.
+    /// Nothing: it has a call, or a block that isn't a test's.
     Waits,
 }

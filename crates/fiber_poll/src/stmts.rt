@@ -8,9 +8,9 @@ ghost use Rattle.fiber_body.specs.Context.{numbering};
 ghost use Rattle.fiber_poll.specs.Moving.{Goes, HasCall, IsBefore, IsWaiting, weight};
 ghost use Rattle.fiber_poll.specs.Polls.{IsPortOf};
 ghost use Rattle.fiber_poll.specs.UnderWay.{CanRun, IsOn, IsUp};
-ghost use Rattle.script_tree.specs.Tree.{Tree};
+ghost use Rattle.fiber_body.specs.Texts.{script_in};
 
-use crate::blocks::enter;
+use crate::blocks::{enter, enter_under};
 use crate::calls::{call_of, take};
 use crate::follow::begin_wait;
 use crate::looking::{begin_attach, begin_await};
@@ -18,17 +18,24 @@ use crate::making::make;
 use crate::owed::{brings_duties, discharge};
 use crate::poller::ScriptPoller;
 use crate::spot::Spot;
+use crate::under::{told, with_current};
 use fiber_body::{Body, Frame};
 use pic_base::Memory;
 use pic_machine::{Carried, Port, PortFault, ReadyLine};
 use script_tree::Stmt;
 
-/// Enters the block of a loop, or that of a statement with a handler. Answers false, and changes nothing,
-/// where the statement has no block.
-pub(crate) fn enter_block(body: &mut Body, spot: Spot, stmt: &Stmt) -> Result<bool, Memory>
+/// Enters the block of a loop, that of a statement with a handler, or one that is run under something else.
+/// Answers false, and changes nothing, where the statement has no block.
+pub(crate) fn enter_block(
+    poller: &ScriptPoller,
+    body: &mut Body,
+    spot: Spot,
+    stmt: &Stmt,
+) -> Result<bool, Memory>
+    requires program { script_in body.old.program ≡ poller.now }
     requires before { IsBefore body.old spot stmt.now }
     requires waits { IsWaiting body.old.context stmt.now }
-    requires can { (script : Tree) × CanRun script stmt.now }
+    requires can { CanRun poller.now stmt.now }
     ensures goes { IfOk result (λ has. OnTrue has (Goes body.old body.new)) }
     ensures lighter { IfOk result (λ has. OnTrue has (weight body.new < weight body.old)) }
     ensures none { IfOk result (λ has. OnFalse has (body.new ≡ body.old)) }
@@ -47,6 +54,12 @@ pub(crate) fn enter_block(body: &mut Body, spot: Spot, stmt: &Stmt) -> Result<bo
                 handler: *handler,
             };
             enter(body, spot, Some(exit), *block)?
+        }
+        Stmt::Forbid(block) => enter_under(body, spot, told(body, false), *block)?,
+        Stmt::Permit(block) => enter_under(body, spot, told(body, true), *block)?,
+        Stmt::Under(comp, block) => {
+            let under = with_current(poller, body, *comp);
+            enter_under(body, spot, under, *block)?
         }
         _ => return Ok(false),
     }

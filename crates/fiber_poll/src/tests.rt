@@ -28,6 +28,8 @@ fn every_built_form(rt: HostRuntime) -> Result<(), Fail> {
         b"picos 1\nmain\nset r1 7\nadd r1 1\nsub r1 r2\nmul r1 2\nput 3 r1\nget r2 3\nend\n",
         // blocks
         b"picos 1\nmain\nloop\nif r1 eq 0\nbreak\nelse\nset r1 0\nend\nend\nend\n",
+        // cancellation that is seen
+        b"picos 1\ncomp c\nmain\nunder c\ncheck\nforbid\ncheck\npermit\ncheck\nunder root\nend\nend\nend\nend\nend\n",
         // raises
         b"picos 1\nmain\ntry\nraise 2\ncatch r1\nsay r1\nend\nend\n",
     ];
@@ -52,11 +54,12 @@ fn one_form_that_is_not_built(rt: HostRuntime) -> Result<(), Fail> {
         b"picos 1\ncomp c\nmain\ncancel r1 c 2\nafter 1 c 2\nend\n",
         // a statement, in main or in a fiber's text
         b"picos 1\nmain\nsay 1\nwords r1 2\nend\n",
-        b"picos 1\nfiber f\ncheck\nend\nmain\nspawn f 1\nend\n",
+        b"picos 1\nfiber f\nterminate\nend\nmain\nspawn f 1\nend\n",
         // a statement in a block
-        b"picos 1\nmain\nloop\ncheck\nend\nend\n",
+        b"picos 1\nmain\nloop\nterminate\nend\nend\n",
         // a promise register
         b"picos 1\nmain\npeek r1 r2 p0\nend\n",
+        b"picos 1\nmain\nunder p0\nend\nend\n",
         b"picos 1\ntrigger t\nmain\ndetach p0 t\nend\n",
         b"picos 1\ntrigger t\nmain\nattach r1 p0 t\nend\n",
         b"picos 1\nmain\nwait r1 p0\nend\n",

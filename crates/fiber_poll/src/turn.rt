@@ -137,7 +137,7 @@ fn begin<P: Port<Body = Body>, R: ReadyLine>(
     if let Stmt::Yield = stmt {
         return Ok(Some(Last::Yield(spot)));
     }
-    match enter_block(body, spot, stmt) {
+    match enter_block(poller, body, spot, stmt) {
         Ok(true) => Ok(None),
         Ok(false) => {
             begin_calls(poller, port, line, body, spot, stmt)?;

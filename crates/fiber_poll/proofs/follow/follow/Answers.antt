@@ -13,7 +13,7 @@ pub await_comp-ahead-requires-clause-comp : goal.await_comp-ahead-requires-claus
 await_comp-ahead-requires-clause-comp g c = followed_stands c.requires.port_of.0 c.args.spot c.args.register c.args.comp c.args.parts c.requires.port_of.1 c.requires.up c.requires.within
 
 pub await_comp-ahead-requires-clause-current : goal.await_comp-ahead-requires-clause-current
-await_comp-ahead-requires-clause-current g c = current_here c.requires.port_of.0 c.waits_under-under.result c.requires.port_of.1 c.requires.up c.waits_under-under.ensures.of_birth
+await_comp-ahead-requires-clause-current g c = current_here c.requires.port_of.0 c.waits_under-under.result c.requires.port_of.1 c.requires.up c.waits_under-under.ensures.may
 
 pub await_comp-ahead-requires-clause-following : goal.await_comp-ahead-requires-clause-following
 await_comp-ahead-requires-clause-following g c = (within_up c.args.spot (Follows c.args.register c.args.comp c.args.parts) c.requires.up c.requires.within).1.on

@@ -15,7 +15,7 @@ returns-in_default-clause-refused g c = on_none c.requires.up
 
 pub fork-requires-clause-child : goal.fork-requires-clause-child
 fork-requires-clause-child g c =
-    is_child c.requires.port_of (record { text = c.args.text; value = c.args.value; current = c.current.result }) c.requires.up c.current.ensures.of_birth
+    is_child c.requires.port_of (record { text = c.args.text; value = c.args.value; current = c.current.result }) c.requires.up c.current.ensures.may
     (subst (λ (tree : Tree). IsNew c.in-Ok.child (Some tree) (record { text = c.args.text; value = c.args.value; current = c.current.result }) None) c.poller.view_is c.in-Ok.ensures)
 
 pub returns-in-Err-default-Again-clause-refused : goal.returns-in-Err-default-Again-clause-refused

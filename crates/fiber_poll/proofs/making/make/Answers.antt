@@ -10,18 +10,18 @@ returns-in_err-say-in-Say-clause-refused g c = on_err c.from_residual.result (_)
 
 pub peek-requires : goal.peek-requires
 peek-requires g c =
-    can_make c.requires.up c.requires.free c.requires.room (names_stand c.requires.port_of (Peek c.in-Peek.comp) (subst (CanAsk c.args.poller.now) c.in-Peek.is c.requires.can)) tt tt
+    can_make c.requires.up c.requires.free c.requires.room (names_stand c.requires.port_of c.requires.up (Peek c.in-Peek.comp) (subst (CanAsk c.args.poller.now c.args.body.now.birth) c.in-Peek.is c.requires.can)) tt tt
 
 pub returns-in_err-peek-in-Peek-clause-refused : goal.returns-in_err-peek-in-Peek-clause-refused
 returns-in_err-peek-in-Peek-clause-refused g c = on_err c.from_residual-in_err-peek-in-Peek.result (_) (on_refused c.in_err-peek-in-Peek.field-0.0 c.requires.up c.in_err-peek-in-Peek.ensures.none c.peek.ensures.rest)
 
 pub complete-requires : goal.complete-requires
 complete-requires g c =
-    can_make c.requires.up c.requires.free c.requires.room (names_stand c.requires.port_of (Complete c.in-Complete.comp c.in-Complete.outcome) (subst (CanAsk c.args.poller.now) c.in-Complete.is c.requires.can)) tt tt
+    can_make c.requires.up c.requires.free c.requires.room (names_stand c.requires.port_of c.requires.up (Complete c.in-Complete.comp c.in-Complete.outcome) (subst (CanAsk c.args.poller.now c.args.body.now.birth) c.in-Complete.is c.requires.can)) tt tt
 
 pub returns-in_err-complete-in-Complete-clause-refused : goal.returns-in_err-complete-in-Complete-clause-refused
 returns-in_err-complete-in-Complete-clause-refused g c = on_err c.from_residual-in_err-complete-in-Complete.result (_) (on_refused c.in_err-complete-in-Complete.field-0.0 c.requires.up c.in_err-complete-in-Complete.ensures.none c.complete.ensures.rest)
 
 pub signal-requires-clause-can : goal.signal-requires-clause-can
 signal-requires-clause-can g c =
-    can_make c.requires.up c.requires.free c.requires.room (names_stand c.requires.port_of (Signal c.in-Signal.trigger) (subst (CanAsk c.args.poller.now) c.in-Signal.is c.requires.can)) tt tt
+    can_make c.requires.up c.requires.free c.requires.room (names_stand c.requires.port_of c.requires.up (Signal c.in-Signal.trigger) (subst (CanAsk c.args.poller.now c.args.body.now.birth) c.in-Signal.is c.requires.can)) tt tt

@@ -5,9 +5,8 @@ use Rattle.pic_machine.specs.Waits.{arming, over, told, waiting_at}
 use Rattle.pic_machine.specs.Sight.{fiber_of}
 use Rattle.fiber_await.specs.declared.ahead.Ahead.{Ahead}
 use Rattle.fiber_await.specs.Phases.{suspended_at, trigger_of}
-use Rattle.fiber_body.specs.Context.{Context}
+use Rattle.fiber_body.specs.Context.{Context, under}
 use Rattle.fiber_body.specs.Shown.{Shown, carry_of}
-use Rattle.fiber_body.specs.Triggers.{under}
 use Rattle.fiber_poll.proofs.Amid.{on_refusal}
 use Rattle.fiber_poll.proofs.Owning.{wait_may}
 use Rattle.fiber_poll.proofs.Placings.{on_ready, on_told, ran_to, ran_under}
@@ -16,7 +15,7 @@ use Rattle.fiber_poll.proofs.Remaking.{no_heavier}
 use Rattle.fiber_poll.proofs.within.wait.Goals as goal
 
 pub suspend-requires-clause-may : goal.suspend-requires-clause-may
-suspend-requires-clause-may g c = wait_may c.requires.port_of.0 c.args.spot c.args.parts c.waits_under-under.result c.requires.port_of.1 c.requires.up c.requires.free c.requires.within c.waits_under-under.ensures.of_birth
+suspend-requires-clause-may g c = wait_may c.requires.port_of.0 c.args.spot c.args.parts c.waits_under-under.result c.requires.port_of.1 c.requires.up c.requires.free c.requires.within c.waits_under-under.ensures.may
 
 pub returns-in_err-suspend-clause-on : goal.returns-in_err-suspend-clause-on
 returns-in_err-suspend-clause-on g c line = on_refusal line c.requires.up c.in_err-suspend.ensures.refused.0 c.suspend.ensures.rest

@@ -11,7 +11,7 @@ use Rattle.fiber_poll.proofs.Placings.{on_woken, ran_under}
 use Rattle.fiber_poll.proofs.within.wake.Goals as goal
 
 pub unsuspend-requires-clause-may : goal.unsuspend-requires-clause-may
-unsuspend-requires-clause-may g c = wake_may c.requires.port_of.0 c.waits_under-under.result c.requires.port_of.1 c.requires.up c.requires.free c.waits_under-under.ensures.of_birth
+unsuspend-requires-clause-may g c = wake_may c.requires.port_of.0 c.waits_under-under.result c.requires.port_of.1 c.requires.up c.requires.free c.waits_under-under.ensures.may
 
 pub returns-in_err-ahead-clause-on : goal.returns-in_err-ahead-clause-on
 returns-in_err-ahead-clause-on g c line = on_refusal line c.requires.up c.in_err-ahead.ensures.refused.0 c.unsuspend.ensures.rest

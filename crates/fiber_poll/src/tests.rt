@@ -16,7 +16,7 @@ fn is_built(alloc: Global, text: &[u8]) -> Result<bool, Fail>
 
 #[test]
 fn every_built_form(rt: HostRuntime) -> Result<(), Fail> {
-    let table: [&[u8]; 7] = [
+    let table: [&[u8]; 8] = [
         // what makes entries
         b"picos 1\ncomp c\nfiber f\nsay r0\nyield\nend\nmain\nreturn r2 c r1\ncancel r3 root 9\npeek r4 r5 c\nspawn f r1\nend\n",
         // triggers
@@ -47,7 +47,7 @@ fn an_empty_script_is_built(rt: HostRuntime) -> Result<(), Fail> {
 
 #[test]
 fn one_form_that_is_not_built(rt: HostRuntime) -> Result<(), Fail> {
-    let table: [&[u8]; 9] = [
+    let table: [&[u8]; 10] = [
         // a declared thing that is neither a trigger nor a computation
         b"picos 1\ntrigger t\ncomp c\nmutex m\nmain\nend\n",
         // another statement on a computation

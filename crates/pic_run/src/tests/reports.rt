@@ -107,7 +107,7 @@ fn refuses(rt: HostRuntime) -> Result<(), Fail> {
         ),
         // Scripts that no run serves yet.
         (
-            "picos 1\nfiber f\ncheck\nend\nmain\nend\n",
+            "picos 1\nfiber f\nterminate\nend\nmain\nend\n",
             "refused line 0 cause 0\n",
         ),
         (
